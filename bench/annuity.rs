@@ -1,0 +1,236 @@
+//! What a fill of annuity factors costs in Rattle, and the same loop in Rust's u128. bench/annuity builds and runs it.
+//! A call on either side reads 424 numbers into rows, tests them, fills and hands the factors out. Where the last row
+//! is refused it costs the reading and the testing alone: that is taken off, and the fill is left. The sides take
+//! turns, and the best round of each counts. Exits 1 where their factors differ.
+use std::process::exit;
+use std::time::Instant;
+
+const TABLES: usize = 16;
+const PASSES: usize = 8;
+const ROUNDS: usize = 200;
+
+const AGES: usize = 106;
+const FIRST: usize = 15;
+const LAST: usize = 120;
+const S: u64 = 1_000_000_000;
+
+type Factors = [u64; AGES];
+
+mod rattle {
+    use super::{Factors, Table};
+
+    mod exported {
+        unsafe extern "C" {
+            pub fn annuity_bench_life_annuity(
+                numbers: *const u32,
+                numbers_len: usize,
+                r: usize,
+                i: u64,
+                out: *mut u64,
+                out_len: usize,
+            ) -> bool;
+            pub fn annuity_bench_pay_annuity(
+                numbers: *const u32,
+                numbers_len: usize,
+                r: usize,
+                i: u64,
+                e: usize,
+                out: *mut u64,
+                out_len: usize,
+            ) -> bool;
+        }
+    }
+
+    pub fn life_annuity(t: &Table, out: &mut Factors) -> bool {
+        let n = &t.numbers;
+        unsafe { exported::annuity_bench_life_annuity(n.as_ptr(), n.len(), t.r, t.i, out.as_mut_ptr(), out.len()) }
+    }
+
+    pub fn pay_annuity(t: &Table, out: &mut Factors) -> bool {
+        let n = &t.numbers;
+        unsafe { exported::annuity_bench_pay_annuity(n.as_ptr(), n.len(), t.r, t.i, t.r, out.as_mut_ptr(), out.len()) }
+    }
+}
+
+mod rust {
+    use super::{AGES, FIRST, Factors, LAST, S, Table};
+
+    type Rows = [[u32; 4]; AGES];
+
+    #[inline(never)]
+    pub fn life_annuity(t: &Table, out: &mut Factors) -> bool {
+        filled(t, |_| S, LAST, S, out)
+    }
+
+    #[inline(never)]
+    pub fn pay_annuity(t: &Table, out: &mut Factors) -> bool {
+        filled(t, |row| row[3] as u64 * S, t.r, 0, out)
+    }
+
+    #[inline(always)]
+    fn filled(t: &Table, amount: impl Fn(&[u32; 4]) -> u64, top: usize, start: u64, out: &mut Factors) -> bool {
+        let rows = rows_of(&t.numbers);
+        let sound = rows.iter().all(is_sound);
+        if sound {
+            *out = fill(&rows, t.r, t.i, amount, top, start);
+        }
+        sound
+    }
+
+    fn rows_of(numbers: &[u32; 4 * AGES]) -> Rows {
+        let mut rows = [[0; 4]; AGES];
+        for (row, four) in rows.iter_mut().zip(numbers.chunks_exact(4)) {
+            row.copy_from_slice(four);
+        }
+        rows
+    }
+
+    fn is_sound(row: &[u32; 4]) -> bool {
+        row[0] as u64 + row[1] as u64 + row[2] as u64 <= 1_000_000 && row[3] <= 100_000
+    }
+
+    #[inline(always)]
+    fn fill(rows: &Rows, r: usize, i: u64, amount: impl Fn(&[u32; 4]) -> u64, top: usize, start: u64) -> Factors {
+        let mut a = [0; AGES];
+        let mut j = top - FIRST;
+        a[j] = start;
+        while j > 0 {
+            let f = a[j];
+            j -= 1;
+            a[j] = amount(&rows[j]) + step(&rows[j], j + FIRST < r, i, f);
+        }
+        a
+    }
+
+    fn step(row: &[u32; 4], works: bool, i: u64, f: u64) -> u64 {
+        let others = if works { row[1] + row[2] } else { 0 };
+        let staying = 1_000_000 - (row[0] + others);
+        nearest(f as u128 * staying as u128, 100 * (10_000 + i as u128)) as u64
+    }
+
+    fn nearest(n: u128, d: u128) -> u128 {
+        let q = n / d;
+        let r = n - q * d;
+        q + (r >= d - r) as u128
+    }
+}
+
+/// The death, withdrawal, disability and weight of each age in turn, with the retirement age and the interest.
+#[derive(Clone)]
+struct Table {
+    numbers: [u32; 4 * AGES],
+    r: usize,
+    i: u64,
+}
+
+impl Table {
+    /// Rates as a pension plan has them, and weights that rise by some percent a year.
+    fn new(random: &mut Random) -> Table {
+        let mut numbers = [0; 4 * AGES];
+        let mut weight = 1_000;
+        for (j, row) in numbers.chunks_exact_mut(4).enumerate() {
+            let death = 200 + (j * j * j / 4) as u32;
+            row.copy_from_slice(&[death, random.between(0, 60_000), random.between(0, 9_000), weight]);
+            weight = 100_000.min(weight + weight * random.between(1, 5) / 100);
+        }
+        Table { numbers, r: random.between(50, 75) as usize, i: random.between(0, 2_000) as u64 }
+    }
+
+    fn refused(mut self) -> Table {
+        self.numbers[4 * AGES - 1] = 100_001;
+        self
+    }
+}
+
+/// Numbers that look random and are the same in each run (splitmix64).
+struct Random(u64);
+
+impl Random {
+    fn between(&mut self, low: u32, high: u32) -> u32 {
+        self.0 = self.0.wrapping_add(0x9e37_79b9_7f4a_7c15);
+        let x = (self.0 ^ (self.0 >> 30)).wrapping_mul(0xbf58_476d_1ce4_e5b9);
+        let x = (x ^ (x >> 27)).wrapping_mul(0x94d0_49bb_1331_11eb);
+        low + ((x ^ (x >> 31)) % (high - low + 1) as u64) as u32
+    }
+}
+
+/// One side's fill, and its best times in ns: of a call that fills, and of one that is refused.
+struct Side {
+    fill: fn(&Table, &mut Factors) -> bool,
+    filled: f64,
+    refused: f64,
+}
+
+impl Side {
+    fn new(fill: fn(&Table, &mut Factors) -> bool) -> Side {
+        Side { fill, filled: f64::INFINITY, refused: f64::INFINITY }
+    }
+
+    fn round(&mut self, good: &[Table], bad: &[Table]) {
+        self.filled = self.filled.min(self.time(good, true));
+        self.refused = self.refused.min(self.time(bad, false));
+    }
+
+    fn time(&self, tables: &[Table], answer: bool) -> f64 {
+        let mut out = [0; AGES];
+        let start = Instant::now();
+        for _ in 0..PASSES {
+            for table in tables {
+                assert_eq!((self.fill)(table, &mut out), answer);
+            }
+        }
+        start.elapsed().as_nanos() as f64 / (PASSES * tables.len()) as f64
+    }
+
+    fn factors(&self, table: &Table) -> Factors {
+        let mut out = [0; AGES];
+        assert!((self.fill)(table, &mut out));
+        out
+    }
+}
+
+struct Case {
+    name: &'static str,
+    rattle: Side,
+    rust: Side,
+}
+
+impl Case {
+    fn print(&self, tables: &[Table]) {
+        let (rattle, rust) = (self.rattle.filled - self.rattle.refused, self.rust.filled - self.rust.refused);
+        println!("{:52} {rattle:6.0} {rust:10.0} {:7.2}", self.name, rattle / rust);
+        if tables.iter().any(|table| self.rattle.factors(table) != self.rust.factors(table)) {
+            println!("the factors differ");
+            exit(1);
+        }
+    }
+}
+
+fn main() {
+    let mut random = Random(1);
+    let good: Vec<Table> = (0..TABLES).map(|_| Table::new(&mut random)).collect();
+    let bad: Vec<Table> = good.iter().cloned().map(Table::refused).collect();
+    let mut cases = [
+        Case {
+            name: "A, 105 year steps",
+            rattle: Side::new(rattle::life_annuity),
+            rust: Side::new(rust::life_annuity),
+        },
+        Case {
+            name: "Z from r down, 35 to 60 year steps",
+            rattle: Side::new(rattle::pay_annuity),
+            rust: Side::new(rust::pay_annuity),
+        },
+    ];
+    for _ in 0..ROUNDS {
+        for case in &mut cases {
+            case.rattle.round(&good, &bad);
+            case.rust.round(&good, &bad);
+        }
+    }
+    let title = format!("one fill, ns, best of {ROUNDS} rounds");
+    println!("{title:52} {:>6} {:>10} {:>7}", "Rattle", "Rust u128", "ratio");
+    for case in &cases {
+        case.print(&good);
+    }
+}

@@ -1,0 +1,56 @@
+-- How far each rounded factor lies from its exact fraction.
+use Prim.Native.Nat.{ℕ, _+_, _-_, _*_, _≤_, _<_}
+use native.Mathlib.Nat.{le-refl, mul-le-mul-right}
+use native.Mathlib.Omega.{arith}
+use Rattle.fractions.specs.Ratio.{Ratio, _over_, whole}
+use Rattle.annuity.specs.Basis.{Basis, Fair, certain}
+use Rattle.annuity.specs.Factors.{S, A, A*, pension, pension*, G, G*, T, T*, Z, Z*, C, C*}
+use Rattle.annuity.specs.Accuracy.{A-Accuracy, G-Accuracy, T-Accuracy, Z-Accuracy, C-Accuracy}
+use Rattle.annuity.proofs.Bases.{certain-fair}
+use Rattle.annuity.proofs.Distance.{Halves, Part, halves-more, part-halves, halves-apart, part-apart}
+use Rattle.annuity.proofs.Annuities.{annuity-part, deferred-halves}
+use Rattle.annuity.proofs.Sizes.{A*-proper, A*-most, G*-proper, T*-proper, Z*-proper}
+
+whole-part : (s n : ℕ) → Part s n (whole n)
+unfolding whole _over_
+whole-part s n = omega arith
+
+module _ (b : Basis) (fair : Fair b) where
+  pub A-part : (k : ℕ) → Part S (A b k) (A* b k)
+  unfolding A A*
+  A-part k = annuity-part b fair (λ j. S) S S (whole S) k (120 - k) (whole-part S S) (λ j from to. le-refl S)
+
+  pub A-halves : (k : ℕ) → k ≤ 120 → Halves (121 - k) (A b k) (A* b k)
+  A-halves k h = part-halves S (121 - k) (omega arith) (A*-most b fair k h) (A-part k)
+
+  pub G-halves : (k : ℕ) → b .r ≤ 120 → k ≤ b .r → Halves (121 - k) (G b k) (G* b k)
+  unfolding G G* pension pension*
+  G-halves k hr h =
+      halves-more (121 - k) (omega arith)
+      (deferred-halves b fair (121 - b .r) (A b (b .r)) (A* b (b .r)) k (b .r - k) (A-halves (b .r) hr))
+
+  pub T-part : (k e : ℕ) → Part S (T b k e) (T* b k e)
+  unfolding T T*
+  T-part k e = annuity-part b fair (λ j. S) S 0 (whole 0) k (e - k) (whole-part S 0) (λ j from to. le-refl S)
+
+  pub Z-part : (w k e : ℕ) → ((j : ℕ) → k ≤ j → j < e → w ≤ b .W j) → Part (w * S) (Z b k e) (Z* b k e)
+  unfolding Z Z*
+  Z-part w k e weights =
+      annuity-part b fair (λ j. b .W j * S) (w * S) 0 (whole 0) k (e - k) (whole-part (w * S) 0)
+      (λ j from to. mul-le-mul-right S (weights j from (omega arith)))
+
+pub A-accuracy : A-Accuracy
+A-accuracy b fair k h = halves-apart (A*-proper b k) (A-halves b fair k h)
+
+pub G-accuracy : G-Accuracy
+G-accuracy b fair hr k h = halves-apart (G*-proper b k) (G-halves b fair k hr h)
+
+pub T-accuracy : T-Accuracy
+T-accuracy b fair k e = part-apart S (omega arith) (T*-proper b k e) (T-part b fair k e)
+
+pub Z-accuracy : Z-Accuracy
+Z-accuracy b fair k e weights = part-apart (1000 * S) (omega arith) (Z*-proper b k e) (Z-part b fair 1000 k e weights)
+
+pub C-accuracy : C-Accuracy
+unfolding C C*
+C-accuracy i m = T-accuracy (certain i) (certain-fair i) 0 m

@@ -1,0 +1,11 @@
+-- The laws of the factors, for the proofs of the crates above.
+pub mod Carried
+pub mod Bases
+pub mod Equations
+pub mod Distance
+pub mod YearStep
+pub mod Annuities
+pub mod Sizes
+pub mod Chains
+pub mod Accuracy
+pub mod Filling

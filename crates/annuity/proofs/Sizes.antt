@@ -1,0 +1,151 @@
+-- How large the factors are, rounded and exact: at most so many payments, and no less for a later end. Every exact lower is above 0.
+use mathlib.Core.Path.{_≡_}
+use Prim.Native.Nat.{ℕ, zero, suc, _+_, _-_, _*_, _≤_, _<_}
+use native.Mathlib.Nat.{le-refl, mul-le-mul-right}
+use native.Mathlib.Omega.{arith}
+use Rattle.fractions.specs.Ratio.{Ratio, whole, Proper, Positive, _≼_}
+use Rattle.fractions.proofs.RatioLaws.{whole-proper}
+use Rattle.fractions.proofs.OrderLaws.{_∙≼_, ≼-refl, whole-≼}
+use Rattle.annuity.specs.Recursion.{carried}
+use Rattle.annuity.specs.Basis.{Basis, Fair, certain}
+use Rattle.annuity.specs.Factors.{S, A, A*, pension, pension*, G, G*, T, T*, Z, Z*, v, C, C*}
+use Rattle.annuity.proofs.Bases.{certain-fair}
+use Rattle.annuity.proofs.Annuities.{paying, paying*, deferred-proper, annuity-proper, annuity-least, annuity*-least, annuity-positive, annuity-most, annuity*-most, deferred-most, deferred*-most, annuity-longer, annuity*-longer}
+
+module _ (b : Basis) where
+  -- ---- every exact lower is above 0
+  pub A*-proper : (k : ℕ) → Proper (A* b k)
+  unfolding A*
+  A*-proper k = annuity-proper b (λ j. S) (whole-proper S) k (120 - k)
+
+  pub pension*-proper : Proper (pension* b)
+  unfolding pension*
+  pension*-proper = A*-proper (b .r)
+
+  pub G*-proper : (k : ℕ) → Proper (G* b k)
+  unfolding G*
+  G*-proper k = deferred-proper b pension*-proper k (b .r - k)
+
+  pub T*-proper : (k e : ℕ) → Proper (T* b k e)
+  unfolding T*
+  T*-proper k e = annuity-proper b (λ j. S) (whole-proper 0) k (e - k)
+
+  pub Z*-proper : (k e : ℕ) → Proper (Z* b k e)
+  unfolding Z*
+  Z*-proper k e = annuity-proper b (λ j. b .W j * S) (whole-proper 0) k (e - k)
+
+  pub v-proper : (k j : ℕ) → Proper (v b k j)
+  unfolding v
+  v-proper k j = deferred-proper b (whole-proper 1) k (j - k)
+
+  -- ---- a year's payment at least, so that T and Z may be divided by
+  pub T-least : (k e : ℕ) → k < e → S ≤ T b k e
+  unfolding T
+  T-least k e h = let years : e - k ≡ suc (e - k - 1) = omega arith in rw years (annuity-least b (λ j. S) 0 k (e - k - 1))
+
+  pub Z-least : (k e : ℕ) → k < e → b .W k * S ≤ Z b k e
+  unfolding Z
+  Z-least k e h =
+      let years : e - k ≡ suc (e - k - 1) = omega arith in rw years (annuity-least b (λ j. b .W j * S) 0 k (e - k - 1))
+
+  pub T*-positive : (k e : ℕ) → k < e → Positive (T* b k e)
+  unfolding T*
+  T*-positive k e h =
+      let years : e - k ≡ suc (e - k - 1) = omega arith in
+      rw years (annuity-positive b (λ j. S) (whole-proper 0) k (e - k - 1) (omega arith))
+
+  pub Z*-positive : (k e : ℕ) → k < e → 0 < b .W k → Positive (Z* b k e)
+  unfolding Z*
+  Z*-positive k e h some =
+      let years : e - k ≡ suc (e - k - 1) = omega arith in
+      rw years (annuity-positive b (λ j. b .W j * S) (whole-proper 0) k (e - k - 1) (omega arith))
+
+  pub Z*-least : (k e : ℕ) → k < e → whole (b .W k * S) ≼ Z* b k e
+  unfolding Z*
+  Z*-least k e h =
+      let years : e - k ≡ suc (e - k - 1) = omega arith in
+      rw years (annuity*-least b (λ j. b .W j * S) (whole-proper 0) k (e - k - 1))
+
+  -- ---- a later end gives no less
+  pub T*-longer : (k x r : ℕ) → k ≤ x → x ≤ r → T* b k x ≼ T* b k r
+  unfolding T*
+  T*-longer k x r kx xr =
+      let years : r - k ≡ x - k + (r - x) = omega arith in rw years (annuity*-longer b (λ j. S) k (x - k) (r - x))
+
+  pub Z*-longer : (k x r : ℕ) → k ≤ x → x ≤ r → Z* b k x ≼ Z* b k r
+  unfolding Z*
+  Z*-longer k x r kx xr =
+      let years : r - k ≡ x - k + (r - x) = omega arith in
+      rw years (annuity*-longer b (λ j. b .W j * S) k (x - k) (r - x))
+
+  module _ (fair : Fair b) where
+    pub T-longer : (k x r : ℕ) → k ≤ x → x ≤ r → T b k x ≤ T b k r
+    unfolding T
+    T-longer k x r kx xr =
+        let years : r - k ≡ x - k + (r - x) = omega arith in rw years (annuity-longer b fair (λ j. S) k (x - k) (r - x))
+
+    pub Z-longer : (k x r : ℕ) → k ≤ x → x ≤ r → Z b k x ≤ Z b k r
+    unfolding Z
+    Z-longer k x r kx xr =
+        let years : r - k ≡ x - k + (r - x) = omega arith in
+        rw years (annuity-longer b fair (λ j. b .W j * S) k (x - k) (r - x))
+
+    -- ---- at most so many payments
+    pub A-most : (k : ℕ) → k ≤ 120 → A b k ≤ (121 - k) * S
+    unfolding A
+    A-most k h =
+        omega (arith, annuity-most b fair (λ j. S) S S 1 k (120 - k) (omega arith) (λ j from to. le-refl S))
+
+    pub A*-most : (k : ℕ) → k ≤ 120 → A* b k ≼ whole ((121 - k) * S)
+    unfolding A*
+    A*-most k h =
+        annuity*-most b fair (λ j. S) S (whole S) 1 k (120 - k) (whole-≼ (omega arith)) (λ j from to. le-refl S)
+        ∙≼ whole-≼ (omega arith)
+
+    pub G-most : (k : ℕ) → b .r ≤ 120 → G b k ≤ (121 - b .r) * S
+    unfolding G pension
+    G-most k h = omega (arith, deferred-most b fair (A b (b .r)) k (b .r - k), A-most (b .r) h)
+
+    pub G*-most : (k : ℕ) → b .r ≤ 120 → G* b k ≼ whole ((121 - b .r) * S)
+    unfolding G* pension*
+    G*-most k h = deferred*-most b fair (A* b (b .r)) k (b .r - k) (A*-proper (b .r)) ∙≼ A*-most (b .r) h
+
+    pub T-most : (k e : ℕ) → T b k e ≤ (e - k) * S
+    unfolding T
+    T-most k e =
+        omega (arith, annuity-most b fair (λ j. S) S 0 0 k (e - k) (omega arith) (λ j from to. le-refl S))
+
+    pub T*-most : (k e : ℕ) → T* b k e ≼ whole ((e - k) * S)
+    unfolding T*
+    T*-most k e =
+        annuity*-most b fair (λ j. S) S (whole 0) 0 k (e - k) (whole-≼ (omega arith)) (λ j from to. le-refl S)
+        ∙≼ whole-≼ (omega arith)
+
+    pub Z-most : (w k e : ℕ) → ((j : ℕ) → k ≤ j → j < e → b .W j ≤ w) → Z b k e ≤ (e - k) * (w * S)
+    unfolding Z
+    Z-most w k e weights =
+        omega (arith, annuity-most b fair (λ j. b .W j * S) (w * S) 0 0 k (e - k) (omega arith) (λ j from to. mul-le-mul-right S (weights j from (omega arith))))
+
+    pub Z*-most : (w k e : ℕ) → ((j : ℕ) → k ≤ j → j < e → b .W j ≤ w) → Z* b k e ≼ whole ((e - k) * (w * S))
+    unfolding Z*
+    Z*-most w k e weights =
+        annuity*-most b fair (λ j. b .W j * S) (w * S) (whole 0) 0 k (e - k) (whole-≼ (omega arith))
+        (λ j from to. mul-le-mul-right S (weights j from (omega arith)))
+        ∙≼ whole-≼ (omega arith)
+
+-- ---- C
+pub C-most : (i m : ℕ) → C i m ≤ m * S
+unfolding C
+C-most i m = omega (arith, T-most (certain i) (certain-fair i) 0 m)
+
+pub C*-positive : (i m : ℕ) → 0 < m → Positive (C* i m)
+unfolding C*
+C*-positive i m h = T*-positive (certain i) 0 m h
+
+pub C*-proper : (i m : ℕ) → Proper (C* i m)
+unfolding C*
+C*-proper i m = T*-proper (certain i) 0 m
+
+pub C-least : (i m : ℕ) → 0 < m → S ≤ C i m
+unfolding C
+C-least i m h = T-least (certain i) 0 m h

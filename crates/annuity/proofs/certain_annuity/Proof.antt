@@ -1,0 +1,75 @@
+-- `annuity::certain_annuity` meets its contract. The loop's invariant: c is the annuity of the payments so far.
+use mathlib.Core.Path.{_≡_, sym, ap, _∙_}
+use Prim.Native.Nat.{ℕ, _+_, _-_, _*_, _≤_}
+use native.Mathlib.Nat.{lt-of-le-of-lt}
+use native.Mathlib.Omega.{arith}
+use Rattle.rounding.specs.Nearest.{nearest}
+use Rattle.rounding.proofs.NearestLaws.{nearest-shrinks}
+use Rattle.annuity.specs.Factors.{S, C}
+use Rattle.annuity.proofs.Equations.{C-none, C-more}
+use Rattle.annuity.proofs.Sizes.{C-most}
+use Rattle.annuity.proofs.certain_annuity.Statement.{statement}
+use Rattle.annuity.proofs.certain_annuity.Tie as tie
+
+abbrev Inv-loop : tie.InvT-loop
+Inv-loop i m c₀ paid₀ c paid = (c ≡ C i paid) × (paid ≤ m)
+
+abbrev μ-loop : tie.MeasureT-loop
+μ-loop i m c₀ paid₀ c paid = m - paid
+
+loop-holds : tie.Need-loop-holds Inv-loop μ-loop
+loop-holds c = (sym (C-none (c .args .i)), omega arith)
+
+add-mul-div-nearest : tie.Need-add-mul-div-nearest Inv-loop μ-loop
+add-mul-div-nearest c = omega arith
+
+mul-mul-div-nearest : tie.Need-mul-mul-div-nearest Inv-loop μ-loop
+mul-mul-div-nearest c = omega arith
+
+mul-div-nearest-requires : tie.Need-mul-div-nearest-requires Inv-loop μ-loop
+mul-div-nearest-requires c κs =
+    let i = c .before .before .args .i in
+    let l = c .before .loop in
+    (omega arith, lt-of-le-of-lt (nearest-shrinks (l .c) 1000000 (100 * (10000 + i)) (omega arith) (omega arith)) (omega (arith, l .inv .0, C-most i (l .paid))))
+
+-- what a turn stores is the annuity of one payment more
+stored : (c : tie.After-mul-div-nearest Inv-loop μ-loop) → S + c .mul-div-nearest .result ≡ C (c .before .before .before .args .i) (c .before .before .loop .paid + 1)
+stored c =
+    let i = c .before .before .before .args .i in
+    let l = c .before .before .loop in
+    ap (λ (f : ℕ). S + f) (c .mul-div-nearest .ensures ∙ ap (λ (f : ℕ). nearest (f * 1000000) (100 * (10000 + i))) (l .inv .0))
+    ∙ sym (C-more i (l .paid))
+
+add-c : tie.Need-add-c Inv-loop μ-loop
+add-c c = omega (arith, stored c, C-most (c .before .before .before .args .i) (c .before .before .loop .paid + 1))
+
+add-paid : tie.Need-add-paid Inv-loop μ-loop
+add-paid c = omega arith
+
+loop-less : tie.Need-loop-less Inv-loop μ-loop
+loop-less c = omega arith
+
+loop-again : tie.Need-loop-again Inv-loop μ-loop
+loop-again c = (stored c, omega arith)
+
+returns : tie.Need-returns Inv-loop μ-loop
+returns c =
+    let l = c .before .loop in
+    let all : l .paid ≡ c .before .before .args .m = omega arith in
+    l .inv .0 ∙ ap (C (c .before .before .args .i)) all
+
+pub certain-annuity-spec : {M : Type 1} → statement M
+certain-annuity-spec =
+    tie.close
+    (tie.spec
+    Inv-loop
+    μ-loop
+    loop-holds
+    add-mul-div-nearest
+    mul-mul-div-nearest
+    mul-div-nearest-requires
+    add-c
+    add-paid
+    loop-less
+    loop-again
+    returns)

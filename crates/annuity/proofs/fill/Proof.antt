@@ -1,0 +1,140 @@
+-- `annuity::fill` meets its contract. The loop's invariant: each age from that of j on holds its factor. The measure is j.
+use mathlib.Core.Path.{_≡_, sym, ap, _∙_}
+use mathlib.Core.List.{[]}
+use Prim.Native.Nat.{ℕ, _+_, _-_, _≤_}
+use native.Mathlib.Omega.{arith}
+use lib.ListN.{getD}
+use Rattle.annuity.specs.Basis.{basis, Sound}
+use Rattle.annuity.specs.Factors.{step}
+use Rattle.annuity.specs.Filled.{Filled, amountOf, factor}
+use Rattle.annuity.proofs.Bases.{basis-fair, table-sound}
+use Rattle.annuity.proofs.Filling.{filled-first, filled-more, factor-top, factor-before, factor-most, year-by-row}
+use Rattle.annuity.proofs.fill.Statement.{statement}
+use Rattle.annuity.proofs.fill.Tie as tie
+
+abbrev Inv-loop : tie.InvT-loop
+Inv-loop r i amount top start rows a₀ j₀ a j =
+    (j ≤ top - 15) × Filled (factor (basis rows r i) amount top start) top (j + 15) a
+
+abbrev μ-loop : tie.MeasureT-loop
+μ-loop r i amount top start rows a₀ j₀ a j = j
+
+sub-j : tie.Need-sub-j Inv-loop μ-loop
+sub-j c = omega arith
+
+mul-a : tie.Need-mul-a Inv-loop μ-loop
+mul-a c = omega arith
+
+array-write-a : tie.Need-array-write-a Inv-loop μ-loop
+array-write-a c = omega arith
+
+loop-holds : tie.Need-loop-holds Inv-loop μ-loop
+loop-holds c =
+    let g = c .args in
+    let b = basis (g .t1) (g .r) (g .i) in
+    let first = filled-first (factor b (g .amount) (g .top) (g .start)) (g .top) (g .start) (omega arith) (omega arith) (sym (factor-top b (g .amount) (g .top) (g .start))) in
+    let low : g .top - 15 + 15 ≡ g .top = omega arith in
+    (omega arith, rw low first)
+
+mul-f : tie.Need-mul-f Inv-loop μ-loop
+mul-f c = omega arith
+
+array-read-f : tie.Need-array-read-f Inv-loop μ-loop
+array-read-f c = omega arith
+
+sub-j-2 : tie.Need-sub-j-2 Inv-loop μ-loop
+sub-j-2 c = omega arith
+
+mul-row : tie.Need-mul-row Inv-loop μ-loop
+mul-row c = omega arith
+
+array-copy-out-row : tie.Need-array-copy-out-row Inv-loop μ-loop
+array-copy-out-row c = omega arith
+
+-- the row of a turn
+sound : (c : tie.After-row Inv-loop μ-loop) → Sound (getD (c .before .before .before .args .t1) (c .before .before .loop .j - 1) [])
+sound c =
+    let s = c .before .before .before in
+    let k : ℕ = c .before .before .loop .j - 1 + 15 in
+    let place : k - 15 ≡ c .before .before .loop .j - 1 = omega arith in
+    rw place at (table-sound (s .args .t1) (s .pre .0) k (omega arith) (omega arith))
+
+amount-of-requires : tie.Need-amount-of-requires Inv-loop μ-loop
+amount-of-requires c κs = sound c
+
+add-step : tie.Need-add-step Inv-loop μ-loop
+add-step c = omega arith
+
+step-requires : tie.Need-step-requires Inv-loop μ-loop
+step-requires c κs = (sound (c .before), c .before .before .before .before .pre .1)
+
+-- what a turn stores is the factor of its age
+stored : (c : tie.After-step Inv-loop μ-loop) → let g = c .before .before .before .before .before .args in c .before .amount-of .result + c .step .result ≡ factor (basis (g .t1) (g .r) (g .i)) (g .amount) (g .top) (g .start) (c .before .before .before .before .loop .j - 1 + 15)
+stored c =
+    let g = c .before .before .before .before .before .args in
+    let l = c .before .before .before .before .loop in
+    let b = basis (g .t1) (g .r) (g .i) in
+    let k : ℕ = l .j - 1 + 15 in
+    let own : l .j - 1 ≡ k - 15 = omega arith in
+    let next : k + 1 - 15 ≡ l .j = omega arith in
+    let later : getD (l .a) (l .j) 0 ≡ factor b (g .amount) (g .top) (g .start) (k + 1) = rw next at (l .inv .1 .upto (k + 1) (omega arith) (omega arith)) in
+    (λ i. c .before .amount-of .ensures i + c .step .ensures i)
+    ∙ year-by-row (g .t1) (g .r) (g .i) (g .amount) k (getD (l .a) (l .j) 0) (ap (λ (n : ℕ). getD (g .t1) n []) own)
+    ∙ ap (λ (f : ℕ). amountOf (b .W k) (g .amount) + step b k f) later
+    ∙ sym (factor-before b (g .amount) (g .top) (g .start) k (omega arith))
+
+add-a : tie.Need-add-a Inv-loop μ-loop
+add-a c =
+    let s = c .before .before .before .before .before in
+    let g = s .args in
+    omega (arith, stored c, factor-most (basis (g .t1) (g .r) (g .i)) (basis-fair (g .t1) (g .r) (g .i)) (g .amount) (g .top) (g .start) (c .before .before .before .before .loop .j - 1 + 15) (s .pre .3) (omega arith) (s .pre .4) (s .pre .0 .weights))
+
+mul-a-2 : tie.Need-mul-a-2 Inv-loop μ-loop
+mul-a-2 c = omega arith
+
+array-write-a-2 : tie.Need-array-write-a-2 Inv-loop μ-loop
+array-write-a-2 c = omega arith
+
+loop-less : tie.Need-loop-less Inv-loop μ-loop
+loop-less c = omega arith
+
+loop-again : tie.Need-loop-again Inv-loop μ-loop
+loop-again c =
+    let s = c .before .before .before .before .before in
+    let g = s .args in
+    let l = c .before .before .before .before .loop in
+    let k : ℕ = l .j - 1 + 15 in
+    let next : l .j + 15 ≡ k + 1 = omega arith in
+    let place : k - 15 ≡ l .j - 1 = omega arith in
+    (omega arith, rw place at (filled-more (factor (basis (g .t1) (g .r) (g .i)) (g .amount) (g .top) (g .start)) (g .top) k (c .before .amount-of .result + c .step .result) (omega arith) (omega arith) (s .pre .3) (stored c) (rw next at (l .inv .1))))
+
+returns : tie.Need-returns Inv-loop μ-loop
+returns c =
+    let l = c .before .loop in
+    let low : l .j + 15 ≡ 15 = omega arith in
+    rw low at (l .inv .1)
+
+pub fill-spec : {M : Type 1} → statement M
+fill-spec =
+    tie.close
+    (tie.spec
+    Inv-loop
+    μ-loop
+    sub-j
+    mul-a
+    array-write-a
+    loop-holds
+    mul-f
+    array-read-f
+    sub-j-2
+    mul-row
+    array-copy-out-row
+    amount-of-requires
+    add-step
+    step-requires
+    add-a
+    mul-a-2
+    array-write-a-2
+    loop-less
+    loop-again
+    returns)

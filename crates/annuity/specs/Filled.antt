@@ -1,0 +1,26 @@
+-- What an array of factors holds. Document 01: "One factor for each of the 106 ages is kept."
+use mathlib.Core.Path.{_≡_}
+use mathlib.Core.List.{List}
+use Prim.Native.Nat.{ℕ, _+_, _-_, _*_, _≤_, _<_}
+use lib.ListN.{length, getD}
+use Rattle.annuity.specs.declared.Amount.{Amount}
+use Rattle.annuity.specs.declared.Amount.the-variants.{Nothing, One, Weight}
+use Rattle.annuity.specs.Recursion.{carried}
+use Rattle.annuity.specs.Basis.{Basis}
+use Rattle.annuity.specs.Factors.{S, step}
+
+-- the place of each age from `low` on holds its factor F(k), up to the age `top`; above that it holds 0
+pub record Filled (F : ℕ → ℕ) (top low : ℕ) (a : List ℕ) : Type 0 where
+  pub size : length a ≡ 106
+  pub upto : (k : ℕ) → low ≤ k → k ≤ top → getD a (k - 15) 0 ≡ F k
+  pub above : (k : ℕ) → top < k → k ≤ 120 → getD a (k - 15) 0 ≡ 0
+
+-- what is paid each year: nothing for G, S for A and T, W(k) × S for Z
+unfoldable pub amountOf : (weight : ℕ) → Amount → ℕ
+amountOf weight Nothing = 0
+amountOf weight One = S
+amountOf weight Weight = weight * S
+
+-- the factor at age k that ends at the age `top` with `start`: A, G, T and Z are cases of it
+unfoldable pub factor : Basis → Amount → ℕ → ℕ → ℕ → ℕ
+factor b amount top start k = carried (λ j f. amountOf (b .W j) amount + step b j f) start k (top - k)

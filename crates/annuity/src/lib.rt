@@ -1,0 +1,142 @@
+// The annuity factors of document 01, 'The figures': the year step, and A, G, T, Z and C in billionths.
+// specs/Factors.antt has the factors, rounded and exact, in the paper's letters; specs/Accuracy.antt how far apart the
+// two lie. Here they are worked: the rows go by value to the step functions, and one fill, downward from the last age,
+// serves A, G, T and Z. An array has a place for each of the 106 ages; age k stands at place k - 15.
+// Each `requires` is what an accepted plan shows.
+ghost use mathlib.Core.Path.{_≡_};
+ghost use Prim.Native.Nat.{ℕ, _+_, _*_, _≤_, _<_};
+ghost use lib.ListN.{getD};
+ghost use Rattle.rounding.specs.Nearest.{nearest};
+ghost use Rattle.annuity.specs.Basis.{Sound, Table, basis, stays};
+ghost use Rattle.annuity.specs.Basis.{weight as Basis·weight};
+ghost use Rattle.annuity.specs.Factors.{A as Factors·A, G, T, Z, C};
+ghost use Rattle.annuity.specs.Factors.{S as Factors·S};
+ghost use Rattle.annuity.specs.Filled.{Filled, amountOf, factor};
+
+// One, in billionths.
+pub const S: u64 = 1_000_000_000;
+
+// P(k), by the row of age k: of a million, how many stay the year.
+fn staying(row: [u32; 4], r: usize, k: usize) -> u64
+    requires { ⌜ Sound row ⌝ }
+    ensures { λ p. ⌜ p ≡ stays row r k ⌝ }
+{
+    let death = word(row[0]);
+    let others = word(row[1]) + word(row[2]);
+    if k < r {
+        1_000_000 - (death + others)
+    } else {
+        1_000_000 - death
+    }
+}
+
+// W(k): the weight of age k.
+pub fn weight(rows: [[u32; 4]; 106], k: usize) -> u64
+    requires { ⌜ (15 ≤ k) × (k ≤ 120) ⌝ }
+    ensures { λ w. ⌜ w ≡ Basis·weight rows k ⌝ }
+{
+    word(rows[k - 15][3])
+}
+
+fn word(x: u32) -> u64
+    ensures { λ r. ⌜ r ≡ x ⌝ }
+{
+    x as u64
+}
+
+// The year step: the factor f carried back from age k + 1 to k, by the row of age k.
+fn step(row: [u32; 4], r: usize, i: u64, k: usize, f: u64) -> u64
+    requires { ⌜ Sound row × (i ≤ 2000) ⌝ }
+    ensures { λ g. ⌜ g ≡ nearest (f * stays row r k) (100 * (10000 + i)) ⌝ }
+{
+    rounding::mul_div_nearest(f, staying(row, r, k), 100 * (10_000 + i))
+}
+
+// What is paid at the start of each year: nothing, one, or the age's weight.
+pub enum Amount {
+    Nothing,
+    One,
+    Weight,
+}
+
+fn amount_of(row: [u32; 4], amount: Amount) -> u64
+    requires { ⌜ Sound row ⌝ }
+    ensures { λ m. ⌜ m ≡ amountOf (getD row 3 0) amount ⌝ }
+{
+    match amount {
+        Amount::Nothing => 0,
+        Amount::One => S,
+        Amount::Weight => word(row[3]) * S,
+    }
+}
+
+// The factor of each age up to `top`, filled downward from `start` there.
+pub fn fill(
+    rows: [[u32; 4]; 106],
+    r: usize,
+    i: u64,
+    amount: Amount,
+    top: usize,
+    start: u64,
+) -> [u64; 106]
+    requires { ⌜ Table rows × (i ≤ 2000) × (15 ≤ top) × (top ≤ 120) × (start ≤ 106 * Factors·S) ⌝ }
+    ensures { λ a. ⌜ Filled (factor (basis rows r i) amount top start) top 15 a ⌝ }
+{
+    let mut a = [0u64; 106];
+    let mut j: usize = top - 15;
+    a[j] = start;
+    while 0 < j {
+        let f = a[j];
+        j -= 1;
+        let row = rows[j];
+        a[j] = amount_of(row, amount) + step(row, r, i, j + 15, f);
+    }
+    a
+}
+
+// A(k) for each age.
+pub fn life_annuity(rows: [[u32; 4]; 106], r: usize, i: u64) -> [u64; 106]
+    requires { ⌜ Table rows × (i ≤ 2000) ⌝ }
+    ensures { λ a. ⌜ Filled (Factors·A (basis rows r i)) 120 15 a ⌝ }
+{
+    fill(rows, r, i, Amount::One, 120, S)
+}
+
+// G(k) for each age up to r.
+pub fn deferred_annuity(rows: [[u32; 4]; 106], r: usize, i: u64) -> [u64; 106]
+    requires { ⌜ Table rows × (i ≤ 2000) × (15 ≤ r) × (r ≤ 120) ⌝ }
+    ensures { λ a. ⌜ Filled (G (basis rows r i)) r 15 a ⌝ }
+{
+    let life = life_annuity(rows, r, i);
+    fill(rows, r, i, Amount::Nothing, r, life[r - 15])
+}
+
+// T(k,e) for each age up to e.
+pub fn working_annuity(rows: [[u32; 4]; 106], r: usize, i: u64, e: usize) -> [u64; 106]
+    requires { ⌜ Table rows × (i ≤ 2000) × (15 ≤ e) × (e ≤ 120) ⌝ }
+    ensures { λ a. ⌜ Filled (λ k. T (basis rows r i) k e) e 15 a ⌝ }
+{
+    fill(rows, r, i, Amount::One, e, 0)
+}
+
+// Z(k,e) for each age up to e.
+pub fn pay_annuity(rows: [[u32; 4]; 106], r: usize, i: u64, e: usize) -> [u64; 106]
+    requires { ⌜ Table rows × (i ≤ 2000) × (15 ≤ e) × (e ≤ 120) ⌝ }
+    ensures { λ a. ⌜ Filled (λ k. Z (basis rows r i) k e) e 15 a ⌝ }
+{
+    fill(rows, r, i, Amount::Weight, e, 0)
+}
+
+// C: the annuity of m certain payments.
+pub fn certain_annuity(i: u64, m: u64) -> u64
+    requires { ⌜ (i ≤ 2000) × (m ≤ 40) ⌝ }
+    ensures { λ c. ⌜ c ≡ C i m ⌝ }
+{
+    let mut c = 0;
+    let mut paid = 0;
+    while paid < m {
+        c = S + rounding::mul_div_nearest(c, 1_000_000, 100 * (10_000 + i));
+        paid += 1;
+    }
+    c
+}

@@ -1,0 +1,70 @@
+-- `annuity_bench::rows_of` meets its contract. The loop's invariant: each row before j is stored.
+use borrow.Author.Needs.{needs}
+use mathlib.Core.Path.{_≡_, sym, _∙_}
+use mathlib.Core.List.{[]}
+use Prim.Native.Nat.{_-_, _≤_}
+use native.Mathlib.Omega.{arith}
+use lib.ListN.{length}
+use Rattle.annuity_bench.specs.Rows.{rowsOf}
+use Rattle.annuity_bench.proofs.Stored.{Stored, stored-none, stored-more, stored-all}
+use Rattle.annuity_bench.proofs.RowLaws.{rowsOf-length, rowsOf-at}
+use Rattle.annuity_bench.proofs.rows_of.Statement.{statement}
+use Rattle.annuity_bench.proofs.rows_of.Tie as tie
+
+abbrev Inv-loop : tie.InvT-loop
+Inv-loop numbers rows₀ j₀ rows j = (j ≤ 106) × Stored [] (rowsOf numbers) rows j
+
+abbrev μ-loop : tie.MeasureT-loop
+μ-loop numbers rows₀ j₀ rows j = 106 - j
+
+loop-holds : tie.Need-loop-holds Inv-loop μ-loop
+loop-holds c =
+    let numbers = c .before .args .numbers .now in
+    (omega arith, stored-none [] (rowsOf numbers) (sym (rowsOf-length numbers)))
+
+mul-row-at : tie.Need-mul-row-at Inv-loop μ-loop
+mul-row-at c = search needs
+
+row-at-requires : tie.Need-row-at-requires Inv-loop μ-loop
+row-at-requires c κs = search needs
+
+mul-rows : tie.Need-mul-rows Inv-loop μ-loop
+mul-rows c = search needs
+
+array-set-from-rows : tie.Need-array-set-from-rows Inv-loop μ-loop
+array-set-from-rows c = search needs
+
+add-j : tie.Need-add-j Inv-loop μ-loop
+add-j c = search needs
+
+loop-less : tie.Need-loop-less Inv-loop μ-loop
+loop-less c = search needs
+
+loop-again : tie.Need-loop-again Inv-loop μ-loop
+loop-again c =
+    let numbers = c .before .before .before .before .args .numbers .now in
+    let l = c .before .before .loop in
+    (omega arith, stored-more [] (rowsOf numbers) (l .j) (c .row-at .result) (omega (arith, rowsOf-length numbers)) (c .row-at .ensures ∙ sym (rowsOf-at numbers (l .j) (omega arith))) (l .inv .1))
+
+returns : tie.Need-returns Inv-loop μ-loop
+returns c =
+    let numbers = c .before .before .before .args .numbers .now in
+    let l = c .before .loop in
+    let all : l .j ≡ length (rowsOf numbers) = omega (arith, rowsOf-length numbers) in
+    stored-all [] (rowsOf numbers) (rw all at (l .inv .1))
+
+pub rows-of-spec : {M : Type 1} → statement M
+rows-of-spec =
+    tie.close
+    (tie.spec
+    Inv-loop
+    μ-loop
+    loop-holds
+    mul-row-at
+    row-at-requires
+    mul-rows
+    array-set-from-rows
+    add-j
+    loop-less
+    loop-again
+    returns)

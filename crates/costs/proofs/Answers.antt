@@ -1,0 +1,30 @@
+-- The answer of `value_member`: what it is, and that its N and L keep the limits.
+use mathlib.Core.Path.{_≡_, sym, ap, subst, _∙_}
+use mathlib.Core.List.{List}
+use Prim.Native.Nat.{ℕ}
+use borrow.Author.Tests.{eq-eqb, ne-eqb}
+use Rattle.plan.specs.declared.Plan.{Plan}
+use Rattle.plan.specs.declared.Member.{Member}
+use Rattle.plan.specs.Acceptance.{loneRefusal, AcceptedMember}
+use Rattle.costs.specs.declared.Figures.{Figures}
+use Rattle.costs.specs.declared.Valuation.the-variants.{Valued, Refused}
+use Rattle.costs.specs.Valuation.{methodOf, caseOf, figuresAt, figures, valuation, Limited}
+use Rattle.costs.proofs.Limits.{limits}
+use Rattle.costs.proofs.Needs.{sound}
+
+module _ (p : Plan) (rows : List (List ℕ)) (m : Member) where
+  pub refused : {number : ℕ} → number ≡ loneRefusal p rows m → (number ≡ 0 → ⊥) → Refused number ≡ valuation p rows m
+  unfolding valuation
+  refused e some = rw e (simp (ne-eqb (loneRefusal p rows m) 0 (λ z. some (e ∙ z))))
+
+  pub valued : {f : Figures} → loneRefusal p rows m ≡ 0 → f ≡ figures p rows m → Valued f ≡ valuation p rows m
+  unfolding valuation
+  valued none e = rw e (simp (eq-eqb (loneRefusal p rows m) 0 none))
+
+  own-figures : AcceptedMember p rows m → Limited p rows m (Valued (figures p rows m))
+  unfolding figures figuresAt
+  own-figures accepted =
+      limits (caseOf p rows m) (sound p rows m accepted) (methodOf (p .method)) (m .age) (accepted .placed .past-entry) (accepted .placed .not-past)
+
+  pub limited : {f : Figures} → AcceptedMember p rows m → f ≡ figures p rows m → Limited p rows m (Valued f)
+  limited accepted e = subst (λ (f : Figures). Limited p rows m (Valued f)) (sym e) (own-figures accepted)

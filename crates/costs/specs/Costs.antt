@@ -1,0 +1,77 @@
+-- Present value, normal cost and liability by the five cost methods, each rounded and exact, side by side. Document 01, 'The figures', with the textbook's equation numbers.
+-- All are in cents. "At another age k of the member, k stands for x in these equations."
+use mathlib.Core.Bool.{cond}
+use Prim.Native.Nat.{ℕ, zero, suc, _+_, _-_, _*_}
+use lib.Dec.{ltb}
+use Rattle.rounding.specs.Nearest.{nearest}
+use Rattle.fractions.specs.Ratio.{Ratio, whole, _⊕_, _⊗_, _⊘_}
+use Rattle.annuity.specs.Factors.{S, G, G*, T, T*, Z, Z*, v}
+use Rattle.plan.specs.Weights.{summed}
+use Rattle.plan.specs.declared.Method.{Method}
+use Rattle.plan.specs.declared.Method.the-variants.{AB, BD, BP, CD, CP}
+use Rattle.costs.specs.Case.{Case}
+
+module _ (c : Case) where
+  open Case c using (basis, B, y)
+
+  abbrev pub r : ℕ
+  r = basis .r
+
+  abbrev pub W : ℕ → ℕ
+  W = basis .W
+
+  -- "M sums the weights of y to r−1."
+  abbrev pub M : ℕ
+  M = summed W y (r - y)
+
+  -- "Present value V(k) = B(r) × G(k) / S, rounded to the cent."
+  unfoldable pub PV : ℕ → ℕ
+  PV k = nearest (B r * G basis k) S
+
+  unfoldable pub PV* : ℕ → Ratio
+  PV* k = whole (B r) ⊗ G* basis k ⊘ whole S
+
+  -- N below r: AB (5.8), BD (6.10), BP (6.11), CD and CP (6.14), (6.15)
+  unfoldable pub cost : Method → ℕ → ℕ
+  cost AB k = nearest ((B (k + 1) - B k) * G basis k) S
+  cost BD k = nearest (PV k) (r - y)
+  cost BP k = nearest (PV k * W k) M
+  cost CD k = nearest (B r * G basis y) (T basis y r)
+  cost CP k = nearest (PV y * W k * S) (Z basis y r)
+
+  unfoldable pub cost* : Method → ℕ → Ratio
+  cost* AB k = whole (B (k + 1) - B k) ⊗ G* basis k ⊘ whole S
+  cost* BD k = PV* k ⊘ whole (r - y)
+  cost* BP k = PV* k ⊗ whole (W k) ⊘ whole M
+  cost* CD k = whole (B r) ⊗ G* basis y ⊘ T* basis y r
+  cost* CP k = PV* y ⊗ whole (W k * S) ⊘ Z* basis y r
+
+  -- the normal cost N. "At x = r every N is 0."
+  unfoldable pub N : Method → ℕ → ℕ
+  N m k = cond (ltb k r) (cost m k) 0
+
+  unfoldable pub N* : Method → ℕ → Ratio
+  N* m k = cond (ltb k r) (cost* m k) (whole 0)
+
+  -- the liability L: AB (5.9), BD and BP (6.10), (6.11), CD and CP (6.14), (6.15)
+  unfoldable pub L : Method → ℕ → ℕ
+  L AB k = nearest (B k * G basis k) S
+  L BD k = nearest (PV k * (k - y)) (r - y)
+  L BP k = nearest (PV k * summed W y (k - y)) M
+  L CD k = nearest (PV k * T basis y k) (T basis y r)
+  L CP k = nearest (PV k * Z basis y k) (Z basis y r)
+
+  unfoldable pub L* : Method → ℕ → Ratio
+  L* AB k = whole (B k) ⊗ G* basis k ⊘ whole S
+  L* BD k = PV* k ⊗ whole (k - y) ⊘ whole (r - y)
+  L* BP k = PV* k ⊗ whole (summed W y (k - y)) ⊘ whole M
+  L* CD k = PV* k ⊗ T* basis y k ⊘ T* basis y r
+  L* CP k = PV* k ⊗ Z* basis y k ⊘ Z* basis y r
+
+  -- the future normal costs: "a sum: the exact N at each age j from k to r−1, times staying and discount from k to j", here over the n ages from j on
+  unfoldable pub costs-from : Method → (k j n : ℕ) → Ratio
+  costs-from m k j zero = whole 0
+  costs-from m k j (suc n) = N* m j ⊗ v basis k j ⊕ costs-from m k (suc j) n
+
+  abbrev pub future : Method → ℕ → Ratio
+  future m k = costs-from m k k (r - k)

@@ -1,0 +1,68 @@
+-- Document 01, 'Figures worked by hand': the proved set as far as it concerns factors, benefits, V, N and L, worked from the definitions by one computed check over one list. Cents.
+use mathlib.Core.Path.{_≡_, refl}
+use mathlib.Core.Bool.{true}
+use mathlib.Core.List.{List, [], _∷_, _++_}
+use Prim.Native.Nat.{ℕ}
+use Rattle.rounding.specs.Nearest.{nearest}
+use Rattle.fractions.specs.Ratio.{_over_, whole, _⊕_, _⊗_, inverse}
+use Rattle.annuity.specs.Recursion.{carried}
+use Rattle.annuity.specs.Basis.{staying}
+use Rattle.annuity.specs.Factors.{step, A, pension, G, T, Z}
+use Rattle.annuity.specs.Figures.{short, Figure, _is_, all-are, factors}
+use Rattle.plan.specs.declared.Plan.{Plan}
+use Rattle.plan.specs.declared.Member.{Member}
+use Rattle.plan.specs.declared.Method.the-variants.{AB, BD, BP, CD, CP}
+use Rattle.plan.specs.Weights.{summed}
+use Rattle.plan.specs.Benefit.{formulaOf, pay, pays, exactBenefit, B}
+use Rattle.costs.specs.Case.{Case}
+use Rattle.costs.specs.Costs.{PV, cost, N, L}
+use Rattle.costs.specs.Valuation.{caseOf}
+
+-- "With interest=1000, retire=65, formula=flat, unit=10000, average=0, method=CD, assets=20.00, years=2, the short table, member=7,63,64,0.00"
+abbrev pub short-plan : Plan
+short-plan =
+    record { interest = 1000; retire = 65; formula = 1; unit = 10000; average = 0; method = 4; assets = 2000; years = 2 }
+
+abbrev pub short-member : Member
+short-member = record { id = 7; entry = 63; age = 64; salary = 0 }
+
+abbrev pub short-case : Case
+short-case = caseOf short-plan short short-member
+
+-- "unit 200, pay 10000.00 at 64", by a formula and an average
+abbrev pay-plan : ℕ → ℕ → Plan
+pay-plan formula average =
+    record { interest = 1000; retire = 65; formula = formula; unit = 200; average = average; method = 4; assets = 2000; years = 2 }
+
+abbrev benefit : ℕ → ℕ → ℕ → ℕ
+benefit formula average k = B (pay-plan formula average) short (record { id = 7; entry = 63; age = 64; salary = 1000000 }) k
+
+unfoldable pub figures : List Figure
+figures =
+    factors
+    ++ (N short-case AB 64 is 9091)
+    ∷ (L short-case AB 64 is 9091)
+    ∷ (N short-case BD 64 is 9091)
+    ∷ (L short-case BD 64 is 9091)
+    ∷ (N short-case BP 64 is 9524)
+    ∷ (L short-case BP 64 is 8658)
+    ∷ (N short-case CD 64 is 8658)
+    ∷ (L short-case CD 64 is 9524)
+    ∷ (N short-case CP 64 is 9091)
+    ∷ (L short-case CP 64 is 9091)
+    ∷ (N short-case CP 63 is 8265)
+    ∷ (PV short-case 63 is 16529)
+    ∷ (L short-case AB 63 is 0)
+    ∷ (L short-case BD 63 is 0)
+    ∷ (L short-case BP 63 is 0)
+    ∷ (L short-case CD 63 is 0)
+    ∷ (L short-case CP 63 is 0)
+    ∷ (benefit 2 0 65 is 38182)
+    ∷ (benefit 3 2 64 is 18182)
+    ∷ (benefit 3 2 65 is 38182)
+    ∷ (benefit 3 1 65 is 40000)
+    ∷ []
+
+pub figures-are : all-are figures ≡ true
+unfolding figures factors short staying nearest carried step A pension G T Z _over_ whole _⊕_ _⊗_ inverse summed formulaOf pay pays exactBenefit B PV cost N L
+figures-are = refl

@@ -1,0 +1,5 @@
+pub mod Case
+pub mod Costs
+pub mod Demand3
+pub mod Valuation
+pub mod Figures

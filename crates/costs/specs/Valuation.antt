@@ -1,0 +1,62 @@
+-- The figures of a plan and a member handed in as plain values, and the answer of `value_member`.
+use mathlib.Core.Path.{_≡_}
+use mathlib.Core.Bool.{cond}
+use mathlib.Core.List.{List}
+use Prim.Native.Nat.{ℕ}
+use lib.Dec.{eqb}
+use Rattle.fractions.specs.Ratio.{_over_}
+use Rattle.annuity.specs.Basis.{Basis, basis}
+use Rattle.annuity.specs.Factors.{G}
+use Rattle.annuity.specs.Filled.{Filled}
+use Rattle.annuity.specs.Accuracy.{Within}
+use Rattle.plan.specs.declared.Plan.{Plan}
+use Rattle.plan.specs.declared.Member.{Member}
+use Rattle.plan.specs.declared.Method.{Method}
+use Rattle.plan.specs.declared.Method.the-variants.{AB, BD, BP, CD, CP}
+use Rattle.plan.specs.Benefit.{B}
+use Rattle.plan.specs.Acceptance.{loneRefusal, Accrued, AcceptedMember}
+use Rattle.costs.specs.declared.Figures.{Figures}
+use Rattle.costs.specs.declared.Valuation.{Valuation}
+use Rattle.costs.specs.declared.Valuation.the-variants.{Valued, Refused}
+use Rattle.costs.specs.Case.{Case}
+use Rattle.costs.specs.Costs.{PV, N, N*, L, L*}
+use Rattle.costs.specs.Demand3.{N-most}
+
+-- a method's code: 1 AB, 2 BD, 3 BP, 4 CD, 5 CP
+unfoldable pub methodOf : ℕ → Method
+methodOf code = cond (eqb code 1) AB (cond (eqb code 2) BD (cond (eqb code 3) BP (cond (eqb code 4) CD CP)))
+
+-- the plan's basis
+abbrev pub planBasis : Plan → List (List ℕ) → Basis
+planBasis p rows = basis rows (p .retire) (p .interest)
+
+module _ (p : Plan) (rows : List (List ℕ)) (m : Member) where
+  -- what the figures rest on
+  abbrev pub caseOf : Case
+  caseOf = record { basis = planBasis p rows; B = B p rows m; y = m .entry }
+
+  -- the figures at age k by any method: B(r), V(k), N and L
+  unfoldable pub figuresAt : Method → ℕ → Figures
+  figuresAt method k =
+      record { benefit = B p rows m (p .retire); value = PV caseOf k; cost = N caseOf method k; liability = L caseOf method k }
+
+  -- "The printed N and L are the rounded ones at x by the plan's method."
+  unfoldable pub figures : Figures
+  figures = figuresAt (methodOf (p .method)) (m .age)
+
+  -- the figures, or the refusal with line 0
+  unfoldable pub valuation : Valuation
+  valuation = let number = loneRefusal p rows m in cond (eqb number 0) (Valued figures) (Refused number)
+
+  -- demand 3, of an answer: N and L lie within document 01's limits of their exact fractions
+  abbrev pub Limited : Valuation → Type 0
+  Limited (Valued f) =
+      Within (N-most caseOf (methodOf (p .method)) (m .age)) (f .cost) (N* caseOf (methodOf (p .method)) (m .age))
+      × Within (15 over 1) (f .liability) (L* caseOf (methodOf (p .method)) (m .age))
+  Limited (Refused number) = Unit {0}
+
+-- an accepted member with its benefits B(k) and the plan's factors G(k), each in its array
+pub record Ready (p : Plan) (rows : List (List ℕ)) (m : Member) (benefits deferred : List ℕ) : Type 0 where
+  pub accepted : AcceptedMember p rows m
+  pub accrued : Accrued p rows m benefits
+  pub filled : Filled (G (planBasis p rows)) (p .retire) 15 deferred

@@ -1,0 +1,95 @@
+// Present value, normal cost and liability of a member by the five cost methods, and demand 3 entire: document 01,
+// 'The figures'. specs/Costs.antt has the figures, rounded and exact, in the paper's letters; specs/Demand3.antt the two
+// statements about them, the equal forms of the liability and the limits; specs/Valuation.antt the answer for plain
+// values. cost.rt works N, liability.rt L, method by method, and parts.rt what they share. `value_member` is the entry:
+// it has no `requires`, and its contract is the figures' equation and the limits on its N and L.
+pub mod cost;
+pub mod liability;
+pub mod parts;
+
+use plan::acceptance::judge_lone_member;
+use plan::{Member, Method, Plan};
+ghost use mathlib.Core.Path.{_≡_};
+ghost use Prim.Native.Nat.{_≤_};
+ghost use Rattle.plan.specs.Acceptance.{AcceptedMember, Accrued};
+ghost use Rattle.costs.specs.Valuation.{methodOf, figuresAt, figures, valuation, Limited};
+
+// The benefit B(r), its present value V, the normal cost N and the liability L, in cents.
+pub struct Figures {
+    pub benefit: u64,
+    pub value: u64,
+    pub cost: u64,
+    pub liability: u64,
+}
+
+// The answer for plain values: the figures, or a refusal with line 0.
+pub enum Valuation {
+    Valued(Figures),
+    Refused(u64),
+}
+
+// Values a lone member of a plan.
+pub fn value_member(p: Plan, rows: [[u32; 4]; 106], m: Member) -> Valuation
+    ensures figures { λ r. ⌜ r ≡ valuation p rows m ⌝ }
+    ensures limits { λ r. ⌜ Limited p rows m r ⌝ }
+{
+    let judged = judge_lone_member(p, rows, m);
+    let refusal = judged.refusal;
+    if refusal != 0 {
+        return Valuation::Refused(refusal);
+    }
+    let benefits = judged.benefits;
+    let f = figures_of(p, rows, m, benefits);
+    Valuation::Valued(f)
+}
+
+// The figures of an accepted member at its own age, by the plan's method.
+pub fn figures_of(p: Plan, rows: [[u32; 4]; 106], m: Member, benefits: [u64; 106]) -> Figures
+    requires { ⌜ AcceptedMember p rows m × Accrued p rows m benefits ⌝ }
+    ensures { λ f. ⌜ f ≡ figures p rows m ⌝ }
+{
+    figures_at(p, rows, m, benefits, method_of(p.method), m.age as usize)
+}
+
+// The figures of an accepted member at any age of its own, by any method.
+pub fn figures_at(
+    p: Plan,
+    rows: [[u32; 4]; 106],
+    m: Member,
+    benefits: [u64; 106],
+    method: Method,
+    k: usize,
+) -> Figures
+    requires { ⌜ AcceptedMember p rows m × Accrued p rows m benefits × (m .entry ≤ k) × (k ≤ p .retire) ⌝ }
+    ensures { λ f. ⌜ f ≡ figuresAt p rows m method k ⌝ }
+{
+    let deferred = annuity::deferred_annuity(rows, p.retire as usize, p.interest);
+    let benefit = parts::of_age(benefits, p.retire as usize);
+    let value = parts::present_value(p, rows, m, benefits, deferred, k);
+    let cost = cost::normal_cost(p, rows, m, benefits, deferred, method, k);
+    let liability = liability::liability(p, rows, m, benefits, deferred, method, k);
+    Figures {
+        benefit,
+        value,
+        cost,
+        liability,
+    }
+}
+
+fn method_of(code: u64) -> Method
+    ensures { λ r. ⌜ r ≡ methodOf code ⌝ }
+{
+    if code == 1 {
+        return Method::AB;
+    }
+    if code == 2 {
+        return Method::BD;
+    }
+    if code == 3 {
+        return Method::BP;
+    }
+    if code == 4 {
+        return Method::CD;
+    }
+    Method::CP
+}

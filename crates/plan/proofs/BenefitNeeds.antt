@@ -1,0 +1,84 @@
+-- What the benefit's code needs: the sums of an accepted plan's weights, and that no product passes 64 bits.
+use mathlib.Core.Path.{_≡_, refl, sym, ap, _∙_}
+use mathlib.Core.List.{List}
+use mathlib.Core.Bool.{Bool, true, false}
+use borrow.Author.Tests.{leb-true, leb-false}
+use lib.Dec.{leb}
+use Prim.Native.Nat.{ℕ, zero, suc, _+_, _-_, _*_, _≤_, _<_, min}
+use native.Mathlib.Nat.{mul-le-mul, min-le-left, min-le-right, min-eq-left, min-eq-right, le-of-lt}
+use native.Mathlib.Omega.{arith}
+use lib.ListN.{getD}
+use Rattle.annuity.specs.Basis.{weight, Table}
+use Rattle.plan.specs.declared.Plan.{Plan}
+use Rattle.plan.specs.declared.Member.{Member}
+use Rattle.plan.specs.Weights.{summed}
+use Rattle.plan.specs.Acceptance.{planRefusal, Placed, Sums}
+use Rattle.plan.proofs.WeightLaws.{summed-from, summed-most}
+use Rattle.plan.proofs.Facts.{PlanFacts, plan-facts}
+
+-- ---- products that fit a word
+pub career-fits : (unit salary weights : ℕ) → unit ≤ 500 → salary ≤ 100000000 → weights ≤ 10600000 → unit * (salary * weights) ≤ 500 * (100000000 * 10600000)
+career-fits unit salary weights hu hs hw = mul-le-mul hu (mul-le-mul hs hw)
+
+pub final-fits : (unit years salary weights : ℕ) → unit ≤ 500 → years ≤ 60 → salary ≤ 100000000 → weights ≤ 1000000 → unit * years * (salary * weights) ≤ 500 * 60 * (100000000 * 1000000)
+final-fits unit years salary weights hu hy hs hw = mul-le-mul (mul-le-mul hu hy) (mul-le-mul hs hw)
+
+-- ---- the last n ages, or all if fewer
+pub record LastAges (average years n : ℕ) : Type 0 where
+  pub some : 0 < n
+  pub most : n ≤ 10
+  pub most-years : n ≤ years
+
+least-some : {a b : ℕ} (t : Bool) → leb a b ≡ t → 0 < a → 0 < b → 0 < min a b
+least-some {a} {b} true e ha hb = rw (min-eq-left (leb-true a b e)) ha
+least-some {a} {b} false e ha hb = rw (min-eq-right (le-of-lt (leb-false a b e))) hb
+
+pub last-ages : (average years : ℕ) → 1 ≤ average → average ≤ 10 → 0 < years → LastAges average years (min average years)
+last-ages average years low high some =
+    record {
+      some = least-some (leb average years) refl low some;
+      most = omega (arith, min-le-left average years);
+      most-years = min-le-right average years;
+    }
+
+-- ---- sums of a table's weights
+module _ (rows : List (List ℕ)) (table : Table rows) (sums : List ℕ) (held : Sums rows sums) (a b : ℕ) (low : 15 ≤ a) (le : a ≤ b) (high : b ≤ 120) where
+  sum-is : getD sums (b - 15) 0 ≡ getD sums (a - 15) 0 + summed (weight rows) a (b - a)
+  sum-is =
+      held .each b (omega arith) high
+      ∙ summed-from (weight rows) a b low le
+      ∙ ap (λ (x : ℕ). x + summed (weight rows) a (b - a)) (sym (held .each a low (omega arith)))
+
+  pub sums-rise : getD sums (a - 15) 0 ≤ getD sums (b - 15) 0
+  sums-rise = omega (arith, sum-is)
+
+  pub sums-differ : getD sums (b - 15) 0 - getD sums (a - 15) 0 ≡ summed (weight rows) a (b - a)
+  sums-differ = omega (arith, sum-is)
+
+  pub sums-most : summed (weight rows) a (b - a) ≤ (b - a) * 100000
+  sums-most = summed-most (weight rows) 100000 a (b - a) (λ j from to. table .weights j (omega arith) (omega arith))
+
+-- ---- of an accepted plan
+module _ (p : Plan) (rows : List (List ℕ)) (accepted : planRefusal p rows ≡ 0) where
+  facts : PlanFacts p rows
+  facts = plan-facts p rows accepted
+
+  pub weight-some : (k : ℕ) → 15 ≤ k → k ≤ 120 → 0 < weight rows k
+  weight-some k low high = omega (arith, facts .least k low high)
+
+  -- ---- and of a member of it, at an age k from entry to retirement
+  module _ (m : Member) (placed : Placed p m) where
+    pub age-low : 15 ≤ m .age
+    age-low = omega (arith, placed .grown, placed .past-entry)
+
+    pub age-high : m .age ≤ 120
+    age-high = omega (arith, placed .not-past, facts .head .retire .1)
+
+    pub now-some : 0 < weight rows (m .age)
+    now-some = weight-some (m .age) age-low age-high
+
+    pub now-most : weight rows (m .age) ≤ 100000
+    now-most = facts .table .weights (m .age) age-low age-high
+
+    pub years-most : (k : ℕ) → k ≤ p .retire → k - m .entry ≤ 60
+    years-most k h = omega (arith, placed .grown, facts .head .retire .1)

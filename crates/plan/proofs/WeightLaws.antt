@@ -1,0 +1,37 @@
+-- The laws of summed weights.
+use mathlib.Core.Path.{_≡_, refl, sym, ap, _∙_}
+use Prim.Native.Nat.{ℕ, zero, suc, _+_, _-_, _*_, _≤_, _<_}
+use native.Mathlib.Nat.{add-zero, mul-le-mul-right}
+use native.Mathlib.Omega.{arith}
+use Rattle.plan.specs.Weights.{summed}
+
+module _ (W : ℕ → ℕ) where
+  -- the ages may be summed in two parts
+  pub summed-split : (k n d : ℕ) → summed W k (n + d) ≡ summed W k n + summed W (k + n) d
+  unfolding summed
+  summed-split k zero d =
+      let n-is : zero + d ≡ d = omega arith in
+      let k-is : k + zero ≡ k = omega arith in
+      rw (n-is, k-is) (omega arith)
+  summed-split k (suc n) d =
+      let n-is : suc n + d ≡ suc (n + d) = omega arith in
+      let k-is : k + suc n ≡ suc k + n = omega arith in
+      rw (n-is, k-is) (omega (arith, summed-split (suc k) n d))
+
+  -- one age more, at the end
+  pub summed-more : (k n : ℕ) → summed W k (n + 1) ≡ summed W k n + W (k + n)
+  unfolding summed
+  summed-more k n = omega (arith, summed-split k n 1)
+
+  -- from one age to another: a difference of sums from 15 on
+  pub summed-from : (a b : ℕ) → 15 ≤ a → a ≤ b → summed W 15 (b - 15) ≡ summed W 15 (a - 15) + summed W a (b - a)
+  summed-from a b low le =
+      let years : b - 15 ≡ a - 15 + (b - a) = omega arith in
+      let there : 15 + (a - 15) ≡ a = omega arith in
+      rw years (summed-split 15 (a - 15) (b - a) ∙ rw there)
+
+  -- n weights of w at most
+  pub summed-most : (w k n : ℕ) → ((j : ℕ) → k ≤ j → j < k + n → W j ≤ w) → summed W k n ≤ n * w
+  unfolding summed
+  summed-most w k zero h = omega arith
+  summed-most w k (suc n) h = omega (arith, h k (omega arith) (omega arith), summed-most w (suc k) n (λ j from to. h j (omega arith) (omega arith)))

@@ -1,0 +1,87 @@
+-- `plan::acceptance::rows_refusal` meets its contract.
+use borrow.Author.Needs.{needs}
+use mathlib.Core.Path.{_≡_, refl, sym, ap, _∙_}
+use Prim.Native.Nat.{_+_, _-_, _≤_}
+use native.Mathlib.Omega.{arith}
+use Rattle.plan.specs.declared.rules.Row.{Row}
+use Rattle.plan.specs.Rules.{firstOf}
+use Rattle.plan.specs.Acceptance.{rowRules, rowOf, weightBefore, rowsRefusal}
+use Rattle.plan.proofs.RuleLaws.{rows-refused, rows-passed, weight-passed, rows-done}
+use Rattle.plan.proofs.acceptance.rows_refusal.Statement.{statement}
+use Rattle.plan.proofs.acceptance.rows_refusal.Tie as tie
+
+abbrev Inv-loop : tie.InvT-loop
+Inv-loop rows k₀ before₀ k before =
+    (15 ≤ k) × (k ≤ 121) × (before ≡ weightBefore rows k) × (rowsRefusal rows 15 106 ≡ rowsRefusal rows k (121 - k))
+
+abbrev μ-loop : tie.MeasureT-loop
+μ-loop rows k₀ before₀ k before = 121 - k
+
+loop-holds : tie.Need-loop-holds Inv-loop μ-loop
+loop-holds c = (omega arith, omega arith, refl, refl)
+
+sub-row-of : tie.Need-sub-row-of Inv-loop μ-loop
+sub-row-of c = omega arith
+
+mul-row-of : tie.Need-mul-row-of Inv-loop μ-loop
+mul-row-of c = omega arith
+
+array-copy-out-row-of : tie.Need-array-copy-out-row-of Inv-loop μ-loop
+array-copy-out-row-of c = omega arith
+
+row-of-requires : tie.Need-row-of-requires Inv-loop μ-loop
+row-of-requires c κs = search needs
+
+row-rule-requires : tie.Need-row-rule-requires Inv-loop μ-loop
+row-rule-requires c κs =
+    let e = c .row-of .ensures in
+    (omega (arith, e .1), omega (arith, e .2), omega (arith, e .3))
+
+-- the row of age k is judged by the paper's rule
+judged : (c : tie.After-row-rule Inv-loop μ-loop) → let l = c .before .before .before .before .loop in let rows = c .before .before .before .before .before .args .t1 in c .row-rule .result ≡ firstOf (rowRules (l .k) (weightBefore rows (l .k)) (rowOf rows (l .k)))
+judged c =
+    let l = c .before .before .before .before .loop in
+    c .row-rule .ensures ∙ (λ i. firstOf (rowRules (l .k) (l .inv .2 i) (c .before .row-of .ensures .0 i)))
+
+returns : tie.Need-returns Inv-loop μ-loop
+returns c =
+    let l = c .before .before .before .before .before .loop in
+    let rows = c .before .before .before .before .before .before .args .t1 in
+    rows-refused rows (l .k) (omega arith) (judged (c .before)) (c .if1 .taken) ∙ sym (l .inv .3)
+
+add-k : tie.Need-add-k Inv-loop μ-loop
+add-k c = omega arith
+
+loop-less : tie.Need-loop-less Inv-loop μ-loop
+loop-less c = omega arith
+
+loop-again : tie.Need-loop-again Inv-loop μ-loop
+loop-again c =
+    let l = c .before .before .before .before .before .loop in
+    let rows = c .before .before .before .before .before .before .args .t1 in
+    let row = c .before .before .row-of .ensures .0 in
+    (omega arith, omega arith, ap (λ (x : Row). x .weight) row ∙ weight-passed rows (l .k) (omega arith) (omega arith), l .inv .3 ∙ rows-passed rows (l .k) (omega arith) (sym (judged (c .before)) ∙ c .if1 .left))
+
+returns-2 : tie.Need-returns-2 Inv-loop μ-loop
+returns-2 c =
+    let l = c .before .loop in
+    let none : 121 - l .k ≡ 0 = omega arith in
+    sym (l .inv .3 ∙ rows-done (c .before .before .args .t1) (l .k) none)
+
+pub rows-refusal-spec : {M : Type 1} → statement M
+rows-refusal-spec =
+    tie.close
+    (tie.spec
+    Inv-loop
+    μ-loop
+    loop-holds
+    sub-row-of
+    mul-row-of
+    array-copy-out-row-of
+    row-of-requires
+    row-rule-requires
+    returns
+    add-k
+    loop-less
+    loop-again
+    returns-2)

@@ -1,0 +1,74 @@
+-- `plan::benefit::accrued_benefits` meets its contract.
+use mathlib.Core.Path.{_≡_, refl}
+use Prim.Native.Nat.{_+_, _-_, _≤_}
+use native.Mathlib.Nat.{le-refl}
+use native.Mathlib.Omega.{arith}
+use Rattle.plan.specs.Benefit.{B}
+use Rattle.plan.proofs.Upward.{Upto, upto-more}
+use Rattle.plan.proofs.Facts.{plan-facts}
+use Rattle.plan.proofs.benefit.accrued_benefits.Statement.{statement}
+use Rattle.plan.proofs.benefit.accrued_benefits.Tie as tie
+
+abbrev Inv-loop : tie.InvT-loop
+Inv-loop p m rows sums retire benefits₀ k₀ benefits k =
+    (retire ≡ p .retire) × (m .entry ≤ k) × (k ≤ p .retire + 1) × Upto (B p rows m) (m .entry) k benefits
+
+abbrev μ-loop : tie.MeasureT-loop
+μ-loop p m rows sums retire benefits₀ k₀ benefits k = p .retire + 1 - k
+
+summed-weights-requires : tie.Need-summed-weights-requires Inv-loop μ-loop
+summed-weights-requires c κs = plan-facts (c .args .p) (c .args .t2) (c .pre .0) .table
+
+loop-holds : tie.Need-loop-holds Inv-loop μ-loop
+loop-holds c =
+    let s = c .before in
+    (refl, le-refl (s .args .m .entry), omega (arith, s .pre .1 .enters), record { size = refl; each = λ k from to. absurd (omega arith) })
+
+benefit-requires : tie.Need-benefit-requires Inv-loop μ-loop
+benefit-requires c κs =
+    let s = c .before .before .before .before .before in
+    let l = c .before .before .before .loop in
+    (s .pre .0, s .pre .1, c .before .before .before .before .summed-weights .ensures, l .inv .1, omega (arith, l .inv .0))
+
+sub-benefits : tie.Need-sub-benefits Inv-loop μ-loop
+sub-benefits c = let s = c .before .before .before .before .before .before in omega (arith, s .pre .1 .grown)
+
+mul-benefits : tie.Need-mul-benefits Inv-loop μ-loop
+mul-benefits c = let s = c .before .before .before .before .before .before in omega (arith, plan-facts (s .args .p) (s .args .t2) (s .pre .0) .head .retire .1)
+
+array-write-benefits : tie.Need-array-write-benefits Inv-loop μ-loop
+array-write-benefits c = let s = c .before .before .before .before .before .before in omega (arith, s .pre .1 .grown, c .before .before .before .before .loop .inv .3 .size, plan-facts (s .args .p) (s .args .t2) (s .pre .0) .head .retire .1)
+
+add-k : tie.Need-add-k Inv-loop μ-loop
+add-k c = let s = c .before .before .before .before .before .before in omega (arith, plan-facts (s .args .p) (s .args .t2) (s .pre .0) .head .retire .1)
+
+loop-less : tie.Need-loop-less Inv-loop μ-loop
+loop-less c = omega (arith, c .before .before .before .before .loop .inv .0)
+
+loop-again : tie.Need-loop-again Inv-loop μ-loop
+loop-again c =
+    let s = c .before .before .before .before .before .before in
+    let l = c .before .before .before .before .loop in
+    (l .inv .0, omega arith, omega (arith, l .inv .0), upto-more (B (s .args .p) (s .args .t2) (s .args .m)) (s .args .m .entry) (l .k) (c .benefit .result) (s .pre .1 .grown) (l .inv .1) (omega (arith, l .inv .0, plan-facts (s .args .p) (s .args .t2) (s .pre .0) .head .retire .1)) (c .benefit .ensures) (l .inv .3))
+
+returns : tie.Need-returns Inv-loop μ-loop
+returns c =
+    let l = c .before .loop in
+    record { size = l .inv .3 .size; each = λ k from to. l .inv .3 .each k from (omega (arith, l .inv .0)) }
+
+pub accrued-benefits-spec : {M : Type 1} → statement M
+accrued-benefits-spec =
+    tie.close
+    (tie.spec
+    Inv-loop
+    μ-loop
+    summed-weights-requires
+    loop-holds
+    benefit-requires
+    sub-benefits
+    mul-benefits
+    array-write-benefits
+    add-k
+    loop-less
+    loop-again
+    returns)

@@ -1,0 +1,150 @@
+-- Accepting a plan, its rows and a member handed in as plain values: document 01's rules in the order of its lines. Cents for money, millionths for rates.
+use mathlib.Core.Bool.{Bool, true, cond, _&&_}
+use mathlib.Core.List.{List, [], _∷_, _++_}
+use Prim.Native.Nat.{ℕ, zero, suc, _+_, _-_, _≤_, _<_}
+use mathlib.Core.Path.{_≡_}
+use lib.ListN.{length, getD}
+use lib.Dec.{leb, ltb, eqb}
+use Rattle.annuity.specs.Basis.{row, weight}
+use Rattle.plan.specs.declared.Plan.{Plan}
+use Rattle.plan.specs.declared.Member.{Member}
+use Rattle.plan.specs.declared.rules.Row.{Row}
+use Rattle.plan.specs.declared.acceptance.Acceptance.{Acceptance}
+use Rattle.plan.specs.declared.acceptance.Acceptance.the-variants.{Accepted, Refused}
+use Rattle.plan.specs.Rules.{unless, firstOf, between}
+use Rattle.plan.specs.Weights.{summed}
+use Rattle.plan.specs.Benefit.{B}
+
+-- ---- the heading, lines 1 to 8
+-- "interest= basis points, 0 to 2000"; "retire= age r, 50 to 75"
+abbrev pub interestRule : ℕ → ℕ
+interestRule i = unless (leb i 2000) 11
+
+abbrev pub retireRule : ℕ → ℕ
+retireRule r = unless (between 50 75 r) 11
+
+-- "There a formula or method code that is none of the listed ones gives 10": 1 flat, 2 career, 3 final; 1 AB, 2 BD, 3 BP, 4 CD, 5 CP
+abbrev pub formulaRule : ℕ → ℕ
+formulaRule code = unless (between 1 3 code) 10
+
+-- "unit= u: for flat, cents of yearly benefit per year of service, 0 to 100000; else basis points of pay, 0 to 500"
+abbrev pub unitRule : (formula unit : ℕ) → ℕ
+unitRule formula unit = unless (leb unit (cond (eqb formula 1) 100000 500)) 11
+
+-- "average= n: 1 to 10 for final; 0 for the others"
+abbrev pub averageRule : (formula average : ℕ) → ℕ
+averageRule formula average = unless (cond (eqb formula 3) (between 1 10 average) (eqb average 0)) 12
+
+abbrev pub methodRule : ℕ → ℕ
+methodRule code = unless (between 1 5 code) 10
+
+-- "assets= an amount up to 999999999999.99"; "years= m, 1 to 40"
+abbrev pub assetsRule : ℕ → ℕ
+assetsRule assets = unless (leb assets 99999999999999) 11
+
+abbrev pub yearsRule : ℕ → ℕ
+yearsRule m = unless (between 1 40 m) 11
+
+unfoldable pub headRules : Plan → List ℕ
+headRules p =
+    interestRule (p .interest)
+    ∷ retireRule (p .retire)
+    ∷ formulaRule (p .formula)
+    ∷ unitRule (p .formula) (p .unit)
+    ∷ averageRule (p .formula) (p .average)
+    ∷ methodRule (p .method)
+    ∷ assetsRule (p .assets)
+    ∷ yearsRule (p .years)
+    ∷ []
+
+-- ---- a row, lines 9 to 114: its age, the weight of the age before (0 where there is none), and its four numbers
+-- "The rates are millionths, each 0 to 1000000, and their sum is at most 1000000. At 120 death is 1000000. The weight W is the salary scale: 1000 to 100000, never falling from an age to the next."
+unfoldable pub rowRules : (k before : ℕ) → Row → List ℕ
+rowRules k before row =
+    unless (leb (row .death) 1000000 && (leb (row .withdrawal) 1000000 && leb (row .disability) 1000000)) 11
+    ∷ unless (leb (row .death + row .withdrawal + row .disability) 1000000) 13
+    ∷ unless (cond (eqb k 120) (eqb (row .death) 1000000) true) 14
+    ∷ unless (between 1000 100000 (row .weight) && leb before (row .weight)) 15
+    ∷ []
+
+-- the four numbers of a row
+abbrev pub rowNumbers : List ℕ → Row
+rowNumbers row =
+    record { death = getD row 0 0; withdrawal = getD row 1 0; disability = getD row 2 0; weight = getD row 3 0 }
+
+module _ (rows : List (List ℕ)) where
+  abbrev pub rowOf : ℕ → Row
+  rowOf k = rowNumbers (row rows k)
+
+  abbrev pub weightBefore : ℕ → ℕ
+  weightBefore k = cond (ltb 15 k) (weight rows (k - 1)) 0
+
+  -- the first refusal of the n rows from age k on
+  unfoldable pub rowsRefusal : ℕ → ℕ → ℕ
+  rowsRefusal k zero = 0
+  rowsRefusal k (suc n) = firstOf (firstOf (rowRules k (weightBefore k) (rowOf k)) ∷ rowsRefusal (suc k) n ∷ [])
+
+-- a plan with its rows, ages 15 to 120
+unfoldable pub planRefusal : Plan → List (List ℕ) → ℕ
+planRefusal p rows = firstOf (firstOf (headRules p) ∷ rowsRefusal rows 15 106 ∷ [])
+
+-- ---- a member line
+-- F never falls over the n years from age k on
+unfoldable pub rises : (F : ℕ → ℕ) → ℕ → ℕ → Bool
+rises F k zero = true
+rises F k (suc n) = leb (F k) (F (suc k)) && rises F (suc k) n
+
+-- "id 1 to 999999999 and above the one before; entry y from 15 to r−1; age x from y to r; salary s a yearly amount up to 1000000.00".
+-- `before` is the id of the member before, and 0 where there is none
+unfoldable pub fieldRules : Plan → (before : ℕ) → Member → List ℕ
+fieldRules p before m =
+    unless (between 1 999999999 (m .id) && ltb before (m .id)) 21
+    ∷ unless (leb 15 (m .entry) && ltb (m .entry) (p .retire)) 22
+    ∷ unless (between (m .entry) (p .retire) (m .age)) 23
+    ∷ unless (leb (m .salary) 100000000) 24
+    ∷ []
+
+-- "25 B(r) over 1000000.00; 26 B falls from one age to the next"
+unfoldable pub benefitRules : Plan → List (List ℕ) → Member → List ℕ
+benefitRules p rows m =
+    unless (leb (B p rows m (p .retire)) 100000000) 25
+    ∷ unless (rises (B p rows m) (m .entry) (p .retire - m .entry)) 26
+    ∷ []
+
+unfoldable pub memberRefusal : Plan → List (List ℕ) → (before : ℕ) → Member → ℕ
+memberRefusal p rows before m = firstOf (fieldRules p before m ++ benefitRules p rows m)
+
+-- a member whose own fields are right
+pub record Placed (p : Plan) (m : Member) : Type 0 where
+  pub grown : 15 ≤ m .entry
+  pub enters : m .entry < p .retire
+  pub past-entry : m .entry ≤ m .age
+  pub not-past : m .age ≤ p .retire
+  pub paid : m .salary ≤ 100000000
+
+-- ---- what is handed on
+-- the benefits that an array holds: B(k) for each age from entry to retirement
+pub record Accrued (p : Plan) (rows : List (List ℕ)) (m : Member) (a : List ℕ) : Type 0 where
+  pub size : length a ≡ 106
+  pub each : (k : ℕ) → m .entry ≤ k → k ≤ p .retire → getD a (k - 15) 0 ≡ B p rows m k
+
+-- the weights of the ages before each age, summed from 15 on, that an array holds
+pub record Sums (rows : List (List ℕ)) (a : List ℕ) : Type 0 where
+  pub size : length a ≡ 106
+  pub each : (k : ℕ) → 15 ≤ k → k ≤ 120 → getD a (k - 15) 0 ≡ summed (weight rows) 15 (k - 15)
+
+-- a member of an accepted plan that no rule refuses, whatever the id before
+pub record AcceptedMember (p : Plan) (rows : List (List ℕ)) (m : Member) : Type 0 where
+  pub plan : planRefusal p rows ≡ 0
+  pub placed : Placed p m
+  pub capped : B p rows m (p .retire) ≤ 100000000
+  pub rising : (k : ℕ) → m .entry ≤ k → k < p .retire → B p rows m k ≤ B p rows m (k + 1)
+
+-- ---- the answers
+-- a refusal number as an answer; the line of plain values is 0
+unfoldable pub answer : ℕ → Acceptance
+answer number = cond (eqb number 0) Accepted (Refused number)
+
+-- a lone member: the plan's refusal comes first, and no id stands before its own
+unfoldable pub loneRefusal : Plan → List (List ℕ) → Member → ℕ
+loneRefusal p rows m = firstOf (planRefusal p rows ∷ memberRefusal p rows 0 m ∷ [])

@@ -1,0 +1,4 @@
+pub mod Rules
+pub mod Weights
+pub mod Benefit
+pub mod Acceptance

@@ -1,0 +1,7 @@
+-- Sums of weights.
+use Prim.Native.Nat.{ℕ, zero, suc, _+_}
+
+-- the weights of the n ages from k on, summed
+unfoldable pub summed : (W : ℕ → ℕ) → ℕ → ℕ → ℕ
+summed W k zero = 0
+summed W k (suc n) = W k + summed W (suc k) n

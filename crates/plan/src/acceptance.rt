@@ -1,0 +1,162 @@
+// Accepting: the rules in the order of the lines. A refusal is its number, and 0 is none.
+use crate::benefit::accrued_benefits;
+use crate::rules::{
+    assets_rule, average_rule, between, both, formula_rule, interest_rule, method_rule, or_else,
+    retire_rule, row_of, row_rule, unit_rule, unless, unless_between, years_rule,
+};
+use crate::{Member, Plan};
+ghost use mathlib.Core.Path.{_≡_};
+ghost use mathlib.Core.Bool.{_&&_};
+ghost use Prim.Native.Nat.{_-_, _^_, _≤_, _<_};
+ghost use lib.ListN.{getD};
+ghost use lib.Dec.{leb, ltb};
+ghost use Rattle.plan.specs.Rules.{firstOf};
+ghost use Rattle.plan.specs.Rules.{unless as Rules·unless, between as Rules·between};
+ghost use Rattle.plan.specs.Acceptance.{headRules, rowOf, rowsRefusal, planRefusal, fieldRules, memberRefusal, loneRefusal, Accrued, AcceptedMember, answer};
+ghost use Rattle.plan.specs.Acceptance.{rises as Acceptance·rises};
+
+// Lines 1 to 8.
+pub fn head_refusal(p: Plan) -> u64
+    ensures { λ r. ⌜ r ≡ firstOf (headRules p) ⌝ }
+{
+    let years = or_else(years_rule(p.years), 0);
+    let assets = or_else(assets_rule(p.assets), years);
+    let method = or_else(method_rule(p.method), assets);
+    let average = or_else(average_rule(p.formula, p.average), method);
+    let unit = or_else(unit_rule(p.formula, p.unit), average);
+    let formula = or_else(formula_rule(p.formula), unit);
+    let retire = or_else(retire_rule(p.retire), formula);
+    or_else(interest_rule(p.interest), retire)
+}
+
+// Lines 9 to 114.
+pub fn rows_refusal(rows: [[u32; 4]; 106]) -> u64
+    ensures { λ r. ⌜ r ≡ rowsRefusal rows 15 106 ⌝ }
+{
+    let mut k: usize = 15;
+    let mut before: u64 = 0;
+    while k <= 120 {
+        let row = row_of(rows[k - 15]);
+        let refusal = row_rule(k, before, row);
+        if refusal != 0 {
+            return refusal;
+        }
+        before = row.weight;
+        k += 1;
+    }
+    0
+}
+
+// The heading and the rows.
+pub fn plan_refusal(p: Plan, rows: [[u32; 4]; 106]) -> u64
+    ensures { λ r. ⌜ r ≡ planRefusal p rows ⌝ }
+{
+    or_else(head_refusal(p), or_else(rows_refusal(rows), 0))
+}
+
+// A refusal, and beside it the member's benefits, which hold where there is none.
+pub struct Judged {
+    pub refusal: u64,
+    pub benefits: [u64; 106],
+}
+
+// A member of an accepted plan, after the member with the id `before`.
+pub fn judge_member(p: Plan, rows: [[u32; 4]; 106], before: u64, m: Member) -> Judged
+    requires { ⌜ planRefusal p rows ≡ 0 ⌝ }
+    ensures { λ j. ⌜ (j .refusal ≡ memberRefusal p rows before m) × (j .refusal ≡ 0 → Accrued p rows m (j .benefits)) ⌝ }
+{
+    let fields = fields_refusal(p, before, m);
+    if fields != 0 {
+        return Judged {
+            refusal: fields,
+            benefits: [0u64; 106],
+        };
+    }
+    let benefits = accrued_benefits(p, rows, m);
+    let rise = rises(benefits, m.entry as usize, p.retire as usize);
+    let top = benefits[p.retire as usize - 15];
+    let falls = or_else(unless(rise, 26), 0);
+    let refusal = or_else(unless(top <= 100_000_000, 25), falls);
+    Judged { refusal, benefits }
+}
+
+// The member's fields alone, 21 to 24.
+fn fields_refusal(p: Plan, before: u64, m: Member) -> u64
+    ensures { λ r. ⌜ r ≡ firstOf (fieldRules p before m) ⌝ }
+{
+    let salary = or_else(unless(m.salary <= 100_000_000, 24), 0);
+    let age = or_else(unless_between(m.entry, p.retire, m.age, 23), salary);
+    let entry = or_else(entry_rule(p.retire, m.entry), age);
+    or_else(id_rule(before, m.id), entry)
+}
+
+fn entry_rule(retire: u64, entry: u64) -> u64
+    ensures { λ r. ⌜ r ≡ Rules·unless (leb 15 entry && ltb entry retire) 22 ⌝ }
+{
+    unless(both(15 <= entry, entry < retire), 22)
+}
+
+fn id_rule(before: u64, id: u64) -> u64
+    ensures { λ r. ⌜ r ≡ Rules·unless (Rules·between 1 999999999 id && ltb before id) 21 ⌝ }
+{
+    unless(both(between(1, 999_999_999, id), before < id), 21)
+}
+
+// Whether what an array holds never falls from the age `from` to the age `to`.
+fn rises(a: [u64; 106], from: usize, to: usize) -> bool
+    requires { ⌜ (15 ≤ from) × (to ≤ 120) ⌝ }
+    ensures { λ r. ⌜ r ≡ Acceptance·rises (λ k. getD a (k - 15) 0) from (to - from) ⌝ }
+{
+    let mut k = from;
+    while k < to {
+        if a[k - 14] < a[k - 15] {
+            return false;
+        }
+        k += 1;
+    }
+    true
+}
+
+// The answer of an entry: accepted, or refused with a number. The line is 0.
+pub enum Acceptance {
+    Accepted,
+    Refused(u64),
+}
+
+fn answer_of(number: u64) -> Acceptance
+    ensures { λ r. ⌜ r ≡ answer number ⌝ }
+{
+    if number == 0 {
+        return Acceptance::Accepted;
+    }
+    Acceptance::Refused(number)
+}
+
+// Accepts a plan with its rows.
+pub fn accept_plan(p: Plan, rows: [[u32; 4]; 106]) -> Acceptance
+    ensures { λ r. ⌜ r ≡ answer (planRefusal p rows) ⌝ }
+{
+    answer_of(plan_refusal(p, rows))
+}
+
+// A lone member of a plan, judged after the plan, with its benefits beside the refusal.
+pub fn judge_lone_member(p: Plan, rows: [[u32; 4]; 106], m: Member) -> Judged
+    ensures { λ j. ⌜ (j .refusal ≡ loneRefusal p rows m) × (j .refusal ≡ 0 → AcceptedMember p rows m) × (j .refusal ≡ 0 → Accrued p rows m (j .benefits)) ⌝ }
+{
+    let refusal = plan_refusal(p, rows);
+    if refusal != 0 {
+        return Judged {
+            refusal,
+            benefits: [0u64; 106],
+        };
+    }
+    judge_member(p, rows, 0, m)
+}
+
+// Accepts a lone member of a plan.
+pub fn accept_member(p: Plan, rows: [[u32; 4]; 106], m: Member) -> Acceptance
+    ensures { λ r. ⌜ r ≡ answer (loneRefusal p rows m) ⌝ }
+{
+    let judged = judge_lone_member(p, rows, m);
+    answer_of(judged.refusal)
+}

@@ -1,0 +1,42 @@
+// A plan, its rows and a member handed in as plain values: document 01's range rules ('The case file', 'Who can cause
+// a refusal') and its 'Pay and benefit'. rules.rt has the rules of single lines, acceptance.rt their order, benefit.rt
+// the accrued benefit. specs/ has the paper's lists: Rules, Benefit, Acceptance; every contract is an equation with
+// them. A formula or method is a code: 1 flat, 2 career, 3 final; 1 AB, 2 BD, 3 BP, 4 CD, 5 CP; so a field that was
+// never set is refused. Money is in cents, a rate in millionths, and each field is wide enough to hold a wrong value.
+pub mod acceptance;
+pub mod benefit;
+pub mod rules;
+
+// How the benefit accrues.
+pub enum Formula {
+    Flat,
+    Career,
+    Final,
+}
+
+// The cost method: accrued benefit; benefit prorate, constant dollar or percent; cost prorate, likewise.
+pub enum Method {
+    AB,
+    BD,
+    BP,
+    CD,
+    CP,
+}
+
+pub struct Plan {
+    pub interest: u64,
+    pub retire: u64,
+    pub formula: u64,
+    pub unit: u64,
+    pub average: u64,
+    pub method: u64,
+    pub assets: u64,
+    pub years: u64,
+}
+
+pub struct Member {
+    pub id: u64,
+    pub entry: u64,
+    pub age: u64,
+    pub salary: u64,
+}

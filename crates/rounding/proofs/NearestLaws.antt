@@ -1,0 +1,48 @@
+-- The laws of `nearest` that callers use: within a half either way, exact where d divides n, monotone, and what follows.
+-- They hold of every rule that rounds to a nearest whole, whatever it does with a half.
+use mathlib.Core.Path.{_≡_, ap}
+use Prim.Native.Nat.{ℕ, _+_, _*_, _≤_, _<_}
+use native.Mathlib.Nat.{mul-one, mul-le-mul-left, mul-le-mul-right, mul-lt-mul-of-pos-right, le-of-mul-le-mul-right, lt-of-mul-lt-mul-left, lt-of-mul-lt-mul-right}
+use native.Mathlib.Omega.{arith}
+use Rattle.rounding.specs.Nearest.{nearest}
+use Rattle.rounding.proofs.HalfUp.{half-up-low, half-up-high, half-up-only}
+
+-- the answer times d is above n by half of d at most
+pub nearest-below : (n d : ℕ) → 2 * (nearest n d * d) ≤ 2 * n + d
+nearest-below n d = omega (arith, half-up-low n d)
+
+-- and below n by half of d at most
+pub nearest-above : (n d : ℕ) → 0 < d → 2 * n ≤ 2 * (nearest n d * d) + d
+nearest-above n d h = omega (arith, half-up-high n d h)
+
+-- where d divides n nothing is rounded
+pub nearest-exact : (q d : ℕ) → 0 < d → nearest (q * d) d ≡ q
+nearest-exact q d h = half-up-only (q * d) d q (omega arith) (omega arith)
+
+-- a larger number is not rounded to a smaller one
+pub nearest-mono : (m n d : ℕ) → 0 < d → m ≤ n → nearest m d ≤ nearest n d
+nearest-mono m n d h le =
+    let b : 2 * d * nearest m d < 2 * d * (nearest n d + 1) = omega (arith, half-up-low m d, half-up-high n d h) in
+    omega (arith, lt-of-mul-lt-mul-left (2 * d) {m = nearest m d} {n = nearest n d + 1} b)
+
+-- a product with at most one is rounded to no more than it was
+pub nearest-shrinks : (f p d : ℕ) → 0 < d → p ≤ d → nearest (f * p) d ≤ f
+nearest-shrinks f p d h le =
+    omega (arith, nearest-mono (f * p) (f * d) d h (mul-le-mul-left f le), nearest-exact f d h)
+
+-- and no number to more than itself
+pub nearest-le : (n d : ℕ) → 0 < d → nearest n d ≤ n
+nearest-le n d h = omega (arith, nearest-shrinks n 1 d h h, ap (λ (x : ℕ). nearest x d) (mul-one n))
+
+-- a remainder raises a quotient by one at most
+pub nearest-quotient : (q r d : ℕ) → r < d → nearest (q * d + r) d ≤ q + 1
+nearest-quotient q r d h =
+    omega (arith, nearest-mono (q * d + r) ((q + 1) * d) d (omega arith) (omega arith), nearest-exact (q + 1) d (omega arith))
+
+-- equal fractions are rounded alike
+pub nearest-cross : (n d m e : ℕ) → 0 < d → 0 < e → n * e ≡ m * d → nearest n d ≡ nearest m e
+nearest-cross n d m e hd he cross =
+    let q : ℕ = nearest m e in
+    half-up-only n d q
+    (le-of-mul-le-mul-right {m = 2 * d * q} {n = 2 * n + d} {k = e} (omega (arith, mul-le-mul-right d (half-up-low m e))) he)
+    (lt-of-mul-lt-mul-right e {m = 2 * n + d} {n = 2 * d * (q + 1)} (omega (arith, mul-lt-mul-of-pos-right {k = d} (half-up-high m e he) hd)))

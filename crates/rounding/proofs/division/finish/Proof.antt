@@ -1,0 +1,45 @@
+-- `rounding::division::finish` meets its contract.
+use borrow.Author.Needs.{needs}
+use mathlib.Core.Path.{_≡_, refl, sym, _∙_}
+use Prim.Native.Nat.{_+_, _*_}
+use native.Mathlib.Omega.{arith}
+use Rattle.rounding.specs.Words.{value}
+use Rattle.rounding.specs.Division.{whole}
+use Rattle.rounding.proofs.Reciprocals.{one-word}
+use Rattle.rounding.proofs.division.finish.Statement.{statement}
+use Rattle.rounding.proofs.division.finish.Tie as tie
+
+abbrev Inv-loop : tie.InvT-loop
+Inv-loop t₀ d v t = whole d t ≡ whole d t₀
+
+abbrev μ-loop : tie.MeasureT-loop
+μ-loop t₀ d v t = value (t .left)
+
+loop-holds : tie.Need-loop-holds Inv-loop μ-loop
+loop-holds c = refl
+
+step-requires : tie.Need-step-requires Inv-loop μ-loop
+step-requires c κs =
+    let k = c .before .before in
+    (k .before .pre .0, rw (k .loop .inv) (k .before .pre .1))
+
+loop-less : tie.Need-loop-less Inv-loop μ-loop
+loop-less c = c .step .ensures .less (c .before .if1 .taken)
+
+loop-again : tie.Need-loop-again Inv-loop μ-loop
+loop-again c = c .step .ensures .same ∙ c .before .before .before .loop .inv
+
+last-requires : tie.Need-last-requires Inv-loop μ-loop
+last-requires c κs =
+    let k = c .before .before in
+    (k .before .pre .0, rw (sym (one-word (k .before .args .d) (k .loop .t) (omega arith)) ∙ k .loop .inv) (k .before .pre .1))
+
+returns : tie.Need-returns Inv-loop μ-loop
+returns c =
+    let k = c .before .before .before in
+    rw (sym (one-word (k .before .args .d) (k .loop .t) (omega arith)) ∙ k .loop .inv) at (c .last .ensures)
+
+pub finish-spec : {M : Type 1} → statement M
+finish-spec =
+    tie.close
+    (tie.spec Inv-loop μ-loop loop-holds step-requires loop-less loop-again last-requires returns)

@@ -1,0 +1,32 @@
+-- `rounding::division::start` meets its contract.
+use borrow.Author.Needs.{needs}
+use mathlib.Core.Path.{_≡_, _∙_}
+use Prim.Native.Nat.{ℕ, _+_, _*_}
+use native.Mathlib.Omega.{arith}
+use Rattle.rounding.specs.declared.words.Wide.{Wide}
+use Rattle.rounding.specs.Words.{value}
+use Rattle.rounding.specs.Division.{whole}
+use Rattle.rounding.proofs.division.start.Statement.{statement}
+use Rattle.rounding.proofs.division.start.Tie as tie
+
+first : (w : Wide) (d : ℕ) → whole d (record { quotient = 0; left = w }) ≡ value w
+unfolding whole
+first w d = omega arith
+
+step-requires : tie.Need-step-requires
+step-requires c κs = (c .pre .0, rw (first (c .args .w) (c .args .d)) (c .pre .1))
+
+one : (c : tie.After-step) → whole (c .before .args .d) (c .step .result) ≡ value (c .before .args .w)
+one c = c .step .ensures .same ∙ first (c .before .args .w) (c .before .args .d)
+
+step-requires-2 : tie.Need-step-requires-2
+step-requires-2 c κs = let k = c .before in (k .before .pre .0, rw (one k) (k .before .pre .1))
+
+returns : tie.Need-returns
+returns c = c .step2 .ensures .same ∙ one (c .before .before)
+
+returns-2 : tie.Need-returns-2
+returns-2 c = one (c .before)
+
+pub start-spec : {M : Type 1} → statement M
+start-spec = tie.close (tie.spec step-requires step-requires-2 returns returns-2)

@@ -1,0 +1,68 @@
+-- `rounding::division::step` meets its contract.
+use borrow.Author.Needs.{needs}
+use mathlib.Core.Path.{_≡_}
+use Prim.Native.Nat.{ℕ, _+_, _*_, _^_, _≤_, _<_}
+use native.Mathlib.Omega.{arith}
+use Rattle.rounding.specs.Words.{value}
+use Rattle.rounding.specs.Division.{whole}
+use Rattle.rounding.proofs.Reciprocals.{taken-le, taken-some, quotient-fits}
+use Rattle.rounding.proofs.division.step.Statement.{statement}
+use Rattle.rounding.proofs.division.step.Tie as tie
+
+product-requires : tie.Need-product-requires
+product-requires c κs = search needs
+
+-- how often d is taken
+times : tie.After-product → ℕ
+times c = c .before .before .args .t .left .high * c .before .before .args .v + c .product .result .high
+
+taken : (c : tie.After-product) → times c * c .before .before .args .d ≤ value (c .before .before .args .t .left)
+unfolding times
+taken c = taken-le (c .before .before .pre .0) (c .before .before .args .t .left) (c .product .result) (c .product .ensures)
+
+fits : (c : tie.After-product) → c .before .before .args .t .quotient + times c < 2 ^ 64
+unfolding whole
+fits c =
+    let a = c .before .before .args in
+    quotient-fits (a .t .quotient + times c) (a .d) (whole (a .d) (a .t)) (omega (arith, taken c)) (c .before .before .pre .1)
+
+mul-k : tie.Need-mul-k
+unfolding times
+mul-k c = omega (arith, fits (c .before))
+
+add-k : tie.Need-add-k
+unfolding times
+add-k c = omega (arith, fits (c .before .before))
+
+add-t7 : tie.Need-add-t7
+unfolding times
+add-t7 c = omega (arith, fits (c .before .before .before))
+
+product-requires-2 : tie.Need-product-requires-2
+product-requires-2 c κs = search needs
+
+minus-requires : tie.Need-minus-requires
+unfolding times
+minus-requires c κs = rw (c .product2 .ensures) (taken (c .before .before .before .before))
+
+same : (q k d r m w : ℕ) → m ≡ k * d → r + m ≡ w → (q + k) * d + r ≡ q * d + w
+same q k d r m w e f = omega arith
+
+less : (r m w k : ℕ) → m ≡ k → r + m ≡ w → 0 < k → r < w
+less r m w k e f some = omega arith
+
+returns : tie.Need-returns
+unfolding whole times
+returns c =
+    let p = c .before .before .before .before .before in
+    let a = p .before .before .args in
+    let m = c .before .product2 in
+    record {
+      same = same (a .t .quotient) (times p) (a .d) (value (c .minus .result)) (value (m .result)) (value (a .t .left)) (m .ensures) (c .minus .ensures);
+      less = λ some. less (value (c .minus .result)) (value (m .result)) (value (a .t .left)) (times p * a .d) (m .ensures) (c .minus .ensures) (taken-some (p .before .before .pre .0) (a .t .left .high) (p .product .result .high) (omega arith) some);
+    }
+
+pub step-spec : {M : Type 1} → statement M
+step-spec =
+    tie.close
+    (tie.spec product-requires mul-k add-k add-t7 product-requires-2 minus-requires returns)

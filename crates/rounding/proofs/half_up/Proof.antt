@@ -1,0 +1,28 @@
+-- `rounding::half_up` meets its contract.
+use borrow.Author.Needs.{needs}
+use mathlib.Core.Path.{sym}
+use native.Mathlib.Omega.{arith}
+use Rattle.rounding.proofs.HalfUp.{raised, kept}
+use Rattle.rounding.proofs.half_up.Statement.{statement}
+use Rattle.rounding.proofs.half_up.Tie as tie
+
+sub-if1 : tie.Need-sub-if1
+sub-if1 c = search needs
+
+add-result : tie.Need-add-result
+add-result c =
+    let a = c .before .args in
+    omega (arith, raised (a .s .quotient) (a .s .remainder) (a .d) (omega arith) (omega arith))
+
+returns : tie.Need-returns
+returns c =
+    let a = c .before .args in
+    sym (raised (a .s .quotient) (a .s .remainder) (a .d) (omega arith) (omega arith))
+
+returns-2 : tie.Need-returns-2
+returns-2 c =
+    let a = c .before .args in
+    sym (kept (a .s .quotient) (a .s .remainder) (a .d) (omega arith))
+
+pub half-up-spec : {M : Type 1} → statement M
+half-up-spec = tie.close (tie.spec sub-if1 add-result returns returns-2)

@@ -1,0 +1,4 @@
+pub mod Nearest
+pub mod Words
+pub mod Division
+pub mod Signed

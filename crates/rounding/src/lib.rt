@@ -1,0 +1,91 @@
+// Rounding, as document 01 has it in 'The figures': a product may exceed 64 bits before it is divided, and it is
+// rounded once, after the division, to the nearest whole, a half up; a negative quotient is rounded by its size.
+// words.rt has products in two words, division.rt one long division that gives quotient and remainder, and this file
+// the rounded quotients that every figure is made with. The rule itself is `nearest`, in specs/Nearest.antt; callers
+// rest on its laws, in proofs/NearestLaws.antt, and not on its text. Each `requires` is what a caller must show.
+pub mod division;
+pub mod words;
+
+use division::Division;
+use words::Wide;
+ghost use mathlib.Core.Path.{_≡_};
+ghost use Prim.Native.Nat.{_+_, _*_, _^_, _<_};
+ghost use lib.IntN.{pos, _*ℤ_};
+ghost use Rattle.rounding.specs.Nearest.{nearest, nearestℤ};
+ghost use Rattle.rounding.specs.Signed.{integer, signed};
+ghost use Rattle.rounding.specs.Words.{value};
+
+// The nearest whole to a division's exact quotient. The remainder is held against what it lacks to the divisor, so
+// that nothing is doubled.
+fn half_up(s: Division, d: u64) -> u64
+    requires { ⌜ (s .remainder < d) × (nearest (s .quotient * d + s .remainder) d < 2 ^ 64) ⌝ }
+    ensures { λ r. ⌜ r ≡ nearest (s .quotient * d + s .remainder) d ⌝ }
+{
+    let q = s.quotient;
+    let r = s.remainder;
+    if r >= d - r { q + 1 } else { q }
+}
+
+// n / d, rounded.
+pub fn div_nearest(n: u64, d: u64) -> u64
+    requires { ⌜ 0 < d ⌝ }
+    ensures { λ r. ⌜ r ≡ nearest n d ⌝ }
+{
+    half_up(division::by_word(n, d), d)
+}
+
+// w / d for a w of two words, rounded.
+pub fn wide_div_nearest(w: Wide, d: u64) -> u64
+    requires { ⌜ (0 < d) × (nearest (value w) d < 2 ^ 64) ⌝ }
+    ensures { λ r. ⌜ r ≡ nearest (value w) d ⌝ }
+{
+    words_div_nearest(w.high, w.low, d)
+}
+
+// The same of two words by themselves, which a call hands over in registers.
+fn words_div_nearest(high: u64, low: u64, d: u64) -> u64
+    requires { ⌜ (0 < d) × (nearest (high * 2 ^ 64 + low) d < 2 ^ 64) ⌝ }
+    ensures { λ r. ⌜ r ≡ nearest (high * 2 ^ 64 + low) d ⌝ }
+{
+    half_up(division::divide(Wide { high, low }, d), d)
+}
+
+// a * b / d, rounded once, after the division.
+pub fn mul_div_nearest(a: u64, b: u64, d: u64) -> u64
+    requires { ⌜ (0 < d) × (nearest (a * b) d < 2 ^ 64) ⌝ }
+    ensures { λ r. ⌜ r ≡ nearest (a * b) d ⌝ }
+{
+    wide_div_nearest(words::product(a, b), d)
+}
+
+// a * b * c / d, rounded once, after the division.
+pub fn mul_mul_div_nearest(a: u64, b: u64, c: u64, d: u64) -> u64
+    requires { ⌜ (0 < d) × (nearest (a * b * c) d < 2 ^ 64) ⌝ }
+    ensures { λ r. ⌜ r ≡ nearest (a * b * c) d ⌝ }
+{
+    wide_div_nearest(words::times(words::product(a, b), c), d)
+}
+
+// An integer: a sign beside a size. Zero has no sign.
+pub struct Signed {
+    pub negative: bool,
+    pub size: u64,
+}
+
+// a * b / d for a signed a: rounded by its size, then given its sign.
+pub fn signed_mul_div_nearest(a: Signed, b: u64, d: u64) -> Signed
+    requires { ⌜ (0 < d) × (nearest (a .size * b) d < 2 ^ 64) ⌝ }
+    ensures { λ r. ⌜ r ≡ signed (nearestℤ (integer a *ℤ pos b) d) ⌝ }
+{
+    let size = mul_div_nearest(a.size, b, d);
+    if size == 0 {
+        return Signed {
+            negative: false,
+            size: 0,
+        };
+    }
+    Signed {
+        negative: a.negative,
+        size,
+    }
+}

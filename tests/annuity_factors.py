@@ -1,0 +1,197 @@
+"""The annuity factors of document 01, 'The figures', worked out with Python's own integers.
+
+    python3 tests/annuity_factors.py --write    writes stdin and stdout of crates/annuity_factors
+    python3 tests/annuity_factors.py --check    runs target/bin/annuity_factors on generated tables and compares
+
+A case is the interest i, the ages r and e, the payments m, and the rows. It goes to the program as bytes, a number's
+little end first, and the program answers with a line for each of A(15..120), G(15..r), T(15..e,e), Z(15..e,e), C(m).
+"""
+import random
+import struct
+import subprocess
+import sys
+from itertools import product
+from pathlib import Path
+
+ROOT = Path(__file__).parent.parent
+CRATE = ROOT / 'crates' / 'annuity_factors'
+PROGRAM = ROOT / 'target' / 'bin' / 'annuity_factors'
+FIRST, LAST = 15, 120
+AGES = range(FIRST, LAST + 1)
+MILLION = 1000000
+S = 1000000000
+
+
+class Case:
+    """Rows are a dictionary from each age to its death, withdrawal, disability and weight."""
+
+    def __init__(self, i, r, e, m, rows):
+        self.i, self.r, self.e, self.m, self.rows = i, r, e, m, rows
+
+    def bytes(self):
+        return struct.pack('<HBBB', self.i, self.r, self.e, self.m) + b''.join(
+            struct.pack('<4I', *self.rows[k]) for k in AGES)
+
+    def staying(self, k):
+        death, withdrawal, disability, _ = self.rows[k]
+        return MILLION - (death + withdrawal + disability if k < self.r else death)
+
+    def step(self, k, factor):
+        return nearest(factor * self.staying(k), 100 * (10000 + self.i))
+
+    def down(self, end, start, amount):
+        """The factors by age: `start` at `end`, and at each age below it its amount and the step of what follows."""
+        factors = {end: start}
+        for k in reversed(range(FIRST, end)):
+            factors[k] = amount(k) + self.step(k, factors[k + 1])
+        return factors
+
+    def A(self):
+        return self.down(LAST, S, lambda k: S)
+
+    def G(self):
+        return self.down(self.r, self.A()[self.r], lambda k: 0)
+
+    def T(self):
+        return self.down(self.e, 0, lambda k: S)
+
+    def Z(self):
+        return self.down(self.e, 0, lambda k: self.rows[k][3] * S)
+
+    def C(self):
+        c = 0
+        for _ in range(self.m):
+            c = S + nearest(c * MILLION, 100 * (10000 + self.i))
+        return {0: c}
+
+    def lines(self):
+        """The lines that the program must write."""
+        factors = dict(A=self.A(), G=self.G(), T=self.T(), Z=self.Z(), C=self.C())
+        return [' '.join([letter] + [str(of[k]) for k in sorted(of)]) for letter, of in factors.items()]
+
+
+def nearest(n, d):
+    """n / d to the nearest whole, a half up."""
+    return (2 * n + d) // (2 * d)
+
+
+# ---- tables
+
+def rows(rates, weights):
+    """From the three rates and the weight of each age. At 120 all die."""
+    table = {k: (*rates(k), weights(k)) for k in AGES}
+    table[LAST] = (MILLION, 0, 0, weights(LAST))
+    return table
+
+
+def short_table():
+    return rows(lambda k: (0 if k <= 64 else MILLION, 0, 0), lambda k: 1000 if k <= 63 else 1100)
+
+
+def kinds_of_rates(rng):
+    """How a table's three rates are drawn. Where half stay and there is no interest, steps come to exact halves."""
+    single = set(rng.sample(AGES, 6))
+
+    def split(total):
+        a, b = sorted(rng.randint(0, total) for _ in range(2))
+        return a, b - a, total - b
+
+    def light(k):
+        return rng.randint(0, 2000), rng.randint(0, 60000), rng.randint(0, 3000)
+
+    def heavy(k):
+        return split(rng.randint(500000, MILLION))
+
+    return {
+        'none': lambda k: (0, 0, 0),
+        'half die': lambda k: (MILLION // 2, 0, 0),
+        'light': light,
+        'heavy': heavy,
+        'light, all leave at single ages': lambda k: split(MILLION) if k in single else light(k),
+        'heavy, all die at single ages': lambda k: (MILLION, 0, 0) if k in single else heavy(k),
+        'all leave': lambda k: split(MILLION),
+        'all die': lambda k: (MILLION, 0, 0),
+    }
+
+
+def kinds_of_weights(rng):
+    rising = sorted(rng.randint(1000, 100000) for _ in AGES)
+    return {'least': lambda k: 1000, 'most': lambda k: 100000, 'rising': lambda k: rising[k - FIRST]}
+
+
+def generated(rng):
+    """Each kind of rates with each kind of weights, at both ends of the ranges of i and r and between them."""
+    interests = [lambda: 0, lambda: 2000, lambda: rng.randint(0, 2000)]
+    retires = [lambda: 50, lambda: 75, lambda: rng.randint(50, 75)]
+    cases = []
+    for interest, retire in product(interests, retires):
+        for rates, weights in product(kinds_of_rates(rng).values(), kinds_of_weights(rng).values()):
+            r = retire()
+            e = rng.choice([FIRST, r, rng.randint(FIRST, r)])
+            m = rng.choice([0, 1, 40, rng.randint(0, 40)])
+            cases.append(Case(interest(), r, e, m, rows(rates, weights)))
+    return cases
+
+
+def skipped():
+    """Cases of which one number is just out of the range that the annuity functions take."""
+    cases = [Case(*numbers, short_table())
+             for numbers in [(2001, 65, 65, 2), (1000, 14, 15, 2), (1000, 121, 65, 2), (1000, 65, 14, 2),
+                             (1000, 65, 121, 2), (1000, 65, 65, 41)]]
+    for row in [(MILLION, 1, 0, 1000), (0, MILLION, 1, 1000), (1, 0, MILLION, 1000), (2**32 - 1, 1, 0, 1000),
+                (0, 0, 0, 100001)]:
+        for age in (FIRST, 64, LAST):
+            cases.append(Case(1000, 65, 65, 2, {**short_table(), age: row}))
+    return cases
+
+
+def stored():
+    """The cases of the gate: the short table, no removals at no interest, heavy removals at the highest interest."""
+    rng = random.Random(1)
+    heavy, rising = kinds_of_rates(rng)['heavy'], kinds_of_weights(rng)['rising']
+    return [
+        Case(1000, 65, 65, 2, short_table()),
+        Case(0, 75, 60, 40, rows(lambda k: (0, 0, 0), lambda k: 1000)),
+        Case(2000, 50, 50, 17, rows(heavy, rising)),
+    ]
+
+
+def text(lines):
+    return ''.join(f'{line}\n' for line in lines)
+
+
+def stored_files():
+    cases = stored()
+    return {
+        CRATE / 'stdin': b''.join(case.bytes() for case in cases),
+        CRATE / 'stdout': text(line for case in cases for line in case.lines()).encode(),
+    }
+
+
+def check():
+    for path, made in stored_files().items():
+        if path.read_bytes() != made:
+            sys.exit(f'annuity_factors: {path} differs from what this program makes')
+    good, bad = stored() + generated(random.Random(2)), skipped()
+    expected = [(f'case {n}', line) for n, case in enumerate(good) for line in case.lines()]
+    expected += [(f'skipped case {n}', 'skipped') for n in range(len(bad))]
+    # The last case lacks a byte, so that it is no case.
+    given = b''.join(case.bytes() for case in good + bad + good[:1])[:-1]
+    said = subprocess.run([PROGRAM], input=given, stdout=subprocess.PIPE, check=True).stdout.decode()
+    for (name, line), answer in zip(expected, said.split('\n')):
+        if line != answer:
+            sys.exit(f'annuity_factors: {name}:\n  {line}\nis expected, and the program writes\n  {answer}')
+    if said != text(line for _, line in expected):
+        sys.exit('annuity_factors: the program writes too many lines, or too few')
+    numbers = sum(line.count(' ') for _, line in expected)
+    print(f'annuity_factors: {numbers} numbers of {len(good)} tables agree; {len(bad)} more tables are skipped')
+
+
+if __name__ == '__main__':
+    if sys.argv[1:] == ['--check']:
+        check()
+    elif sys.argv[1:] == ['--write']:
+        for path, made in stored_files().items():
+            path.write_bytes(made)
+    else:
+        sys.exit(__doc__)

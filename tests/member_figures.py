@@ -1,0 +1,400 @@
+"""The figures of lone members, handed in as plain values: the program member_figures held to tests/oracle.py.
+
+    python3 tests/member_figures.py --write    writes stdin and stdout of crates/member_figures
+    python3 tests/member_figures.py --check    runs target/bin/member_figures on generated members and compares
+
+A case is a plan, its rows and a member. It goes to the program as bytes, a number's little end first, and the program
+answers with a line: the figures in cents, or the number of a refusal. The check also holds each N and L to the limits
+on their distance from the exact fractions, and each exact L to its future-cost form.
+"""
+import random
+import struct
+import subprocess
+import sys
+from collections import Counter
+from fractions import Fraction
+from itertools import product
+from pathlib import Path
+from typing import NamedTuple
+
+from accuracy_search import FIGURES, Shape, largest_salary, pushed
+from oracle import (AB, AGES, CAREER, CD, CP, FINAL, FIRST, FLAT, FORMULAS, LAST, LIMIT, METHOD_NAMES, METHODS, MILLION,
+                    MOST_ASSETS, MOST_BENEFIT, MOST_SALARY, S, SHARP_L, SHARP_N, Factors, Member, Plan, benefit,
+                    exact_benefit, exact_costs, nearest, refusal, rounded_costs, short_table, strays, table)
+
+ROOT = Path(__file__).parent.parent
+CRATE = ROOT / 'crates' / 'member_figures'
+PROGRAM = ROOT / 'target' / 'bin' / 'member_figures'
+# Refusal 26, a benefit that falls, can't occur: weights never fall, so neither the pay of the years nor a mean of the
+# last ones does.
+REFUSALS = {10, 11, 12, 13, 14, 15, 21, 22, 23, 24, 25}
+
+
+class Case(NamedTuple):
+    plan: Plan
+    rows: dict
+    member: Member
+
+    def bytes(self):
+        rows = b''.join(struct.pack('<4I', *self.rows[k]) for k in AGES)
+        return struct.pack('<8Q', *self.plan) + rows + struct.pack('<4Q', *self.member)
+
+    def figures(self):
+        return rounded_costs(*self).figures(self.plan.method, self.member.age)
+
+    def line(self):
+        """The line that the program must write."""
+        number = refusal(*self)
+        return f'refused={number}' if number else 'figures=' + ','.join(map(str, self.figures()))
+
+
+# ---- the cases that document 01 works by hand
+
+def dollars(text):
+    return int(text.replace('.', ''))
+
+
+def worked():
+    """Each case with what the paper says of it: some of its figures, or its refusal."""
+    plan = Plan(1000, 65, FLAT, 10000, 0, CD, 2000, 2)
+    said = {
+        'AB': ('90.91', '90.91'),
+        'BD': ('90.91', '90.91'),
+        'BP': ('95.24', '86.58'),
+        'CD': ('86.58', '95.24'),
+        'CP': ('90.91', '90.91'),
+    }
+    for method, name in METHOD_NAMES.items():
+        case = Case(plan._replace(method=method), short_table(), Member(7, 63, 64, 0))
+        cost, liability = said[name]
+        yield case, dict(benefit='200.00', value='181.82', cost=cost, liability=liability)
+        cost = dict(cost='82.65') if method == CP else {}
+        yield case._replace(member=Member(7, 63, 63, 0)), dict(value='165.29', liability='0.00', **cost)
+    yield from worked_benefits(plan)
+    yield from worked_level()
+    yield from worked_bounds(plan)
+
+
+def worked_benefits(plan):
+    career = Case(plan._replace(formula=CAREER, unit=200), short_table(), Member(7, 63, 64, dollars('10000.00')))
+    yield career, dict(benefit='381.82')
+    final = plan._replace(formula=FINAL, unit=200, average=2)
+    yield career._replace(plan=final), dict(benefit='381.82')
+    # Only AB's figures show the B(64) of this plan.
+    yield career._replace(plan=final._replace(method=AB)), dict(benefit='381.82')
+    yield career._replace(plan=final._replace(average=1)), dict(benefit='400.00')
+
+
+def level_table():
+    """No removals before 120, equal weights."""
+    return table(lambda k: (0, 0, 0), lambda k: 1000)
+
+
+def worked_level():
+    for method in METHODS:
+        case = Case(Plan(0, 65, FLAT, 10000, 0, method, 0, 1), level_table(), Member(1, 35, 45, 0))
+        yield case, dict(value='168000.00', cost='5600.00', liability='56000.00')
+
+
+def worked_bounds(plan):
+    for retire, number in ((49, 11), (50, 0), (75, 0), (76, 11)):
+        yield Case(plan._replace(retire=retire), level_table(), Member(7, 40, 45, 0)), number or {}
+    for row, number in (((400000, 300000, 300000, 1100), 0), ((400000, 300000, 300001, 1100), 13)):
+        yield Case(plan, {**short_table(), 64: row}, Member(7, 63, 64, 0)), number or {}
+    yield Case(plan, {**short_table(), FIRST: (0, 0, 0, 999)}, Member(7, 63, 64, 0)), 15
+    for service, answer in ((20, dict(benefit='1000000.00')), (21, 25)):
+        final = plan._replace(formula=FINAL, unit=500, average=1)
+        yield Case(final, level_table(), Member(7, 65 - service, 60, MOST_SALARY)), answer
+
+
+def check_worked():
+    """The oracle gives what the paper works by hand."""
+    for case, said in worked():
+        if isinstance(said, int):
+            agrees = refusal(*case) == said
+        else:
+            figures = refusal(*case) == 0 and case.figures()._asdict()
+            agrees = figures and all(figures[field] == dollars(amount) for field, amount in said.items())
+        if not agrees:
+            differ(case, f'document 01 says {said}', f'the oracle {case.line()}')
+    check_worked_parts()
+
+
+def check_worked_parts():
+    """What the paper works out beside the figures of a member."""
+    (plan, rows, member), _ = next(worked())
+    final = plan._replace(formula=FINAL, unit=200, average=2), rows, member._replace(salary=dollars('10000.00'))
+    factors, costs = Factors(plan, rows, nearest), rounded_costs(plan, rows, member)
+    parts = {
+        'G(64)': (factors.G()[64], 909090909),
+        'G(63)': (factors.G()[63], 826446281),
+        'T(63,65)': (factors.T(65)[63], 1909090909),
+        'N of CP at 63 before rounding': (Fraction(costs.V(63) * 1000 * S, factors.Z(65)[63]), Fraction('8264.5')),
+        'B(64)': (benefit(*final, 64), dollars('181.82')),
+        'B(65)': (benefit(*final, 65), dollars('381.82')),
+    }
+    for name, (made, said) in parts.items():
+        if made != said:
+            sys.exit(f'member_figures: document 01 says {name} is {said}, the oracle {made}')
+
+
+# ---- drawn cases
+
+def split(rng, total):
+    a, b = sorted(rng.randint(0, total) for _ in range(2))
+    return a, b - a, total - b
+
+
+def drawn_rates(rng):
+    """By age. Where hardly anyone leaves, roundings add up most; where all leave, nothing may be divided by staying."""
+    gaps = set(rng.sample(AGES, 4))
+
+    def none(k):
+        return 0, 0, 0
+
+    def tiny(k):
+        return split(rng, rng.randint(0, 300))
+
+    def light(k):
+        return rng.randint(0, 2000), rng.randint(0, 60000), rng.randint(0, 3000)
+
+    def heavy(k):
+        return split(rng, rng.randint(500000, MILLION))
+
+    def gapped(k):
+        return split(rng, MILLION) if k in gaps else light(k)
+
+    return rng.choice([none, tiny, tiny, light, light, heavy, gapped])
+
+
+def drawn_weights(rng):
+    rising = sorted(rng.randint(1000, 100000) for _ in AGES)
+    jump = rng.choice(AGES)
+    return rng.choice([
+        lambda k: 1000,
+        lambda k: 100000,
+        lambda k: rising[k - FIRST],
+        lambda k: 1000 if k < jump else 100000,
+        lambda k: int(1000 * 1.04**(k - FIRST)),
+    ])
+
+
+def drawn_plan(rng):
+    formula = rng.choice(FORMULAS)
+    most_unit = 100000 if formula == FLAT else 500
+    return Plan(
+        interest=rng.choice([0, 1, 2000, rng.randint(0, 2000)]),
+        retire=rng.choice([50, 75, rng.randint(50, 75)]),
+        formula=formula,
+        unit=rng.choice([most_unit, rng.randint(0, most_unit)]),
+        average=rng.choice([1, 10, rng.randint(1, 10)]) if formula == FINAL else 0,
+        method=rng.choice(METHODS),
+        assets=rng.choice([0, MOST_ASSETS, rng.randint(0, MOST_ASSETS)]),
+        years=rng.randint(1, 40))
+
+
+def drawn_member(rng, plan, rows):
+    r = plan.retire
+    y = rng.choice([FIRST, r - 1, *rng.choices(range(FIRST, r), k=6)])
+    x = rng.choice([y, r, *rng.choices(range(y, r), k=6)])
+    member = Member(rng.choice([1, 999999999, rng.randint(1, 999999999)]), y, x, 1)
+    largest = largest_salary(plan, rows, member)
+    over = min(largest + 1, MOST_SALARY)
+    salaries = [largest, largest, over, rng.randint(0, largest), rng.randint(0, MOST_SALARY)]
+    return member._replace(salary=rng.choice(salaries))
+
+
+def drawn_case(rng):
+    plan, rows = drawn_plan(rng), table(drawn_rates(rng), drawn_weights(rng))
+    return Case(plan, rows, drawn_member(rng, plan, rows))
+
+
+def drawn_accepted(rng):
+    while True:
+        case = drawn_case(rng)
+        if refusal(*case) == 0:
+            return case
+
+
+# ---- cases at the bounds
+
+class Change(NamedTuple):
+    """Other values for some fields of the plan, for the rows of some ages, for some fields of the member."""
+    plan: dict = {}
+    rows: dict = {}
+    member: dict = {}
+
+
+def changed(case, changes):
+    for change in changes:
+        case = Case(
+            case.plan._replace(**change.plan), {**case.rows, **change.rows}, case.member._replace(**change.member))
+    return case
+
+
+def edges(least, most, largest):
+    """Both sides of each bound of a range, and the largest number that the field holds."""
+    return [value for value in (least - 1, least, most, most + 1, largest) if value >= 0]
+
+
+def plan_edges(case):
+    flat, final = case.plan.formula == FLAT, case.plan.formula == FINAL
+    ranges = dict(
+        interest=(0, 2000),
+        retire=(50, 75),
+        formula=(1, 3),
+        unit=(0, 100000 if flat else 500),
+        average=(1, 10) if final else (0, 0),
+        method=(1, 5),
+        assets=(0, MOST_ASSETS),
+        years=(1, 40))
+    return [Change(plan={field: value}) for field, of in ranges.items() for value in edges(*of, 2**64 - 1)]
+
+
+def row_edges(case):
+    """At the ends of the table and about the retirement age."""
+    ages = FIRST, 40, case.plan.retire - 1, case.plan.retire, LAST - 1, LAST
+    return [Change(rows={k: row}) for k in ages for row in rows_at_edges(case.rows, k)]
+
+
+def rows_at_edges(rows, k):
+    *rates, weight = rows[k]
+    for place in range(3):
+        for rate in edges(0, MILLION, 2**32 - 1):
+            yield (*rates[:place], rate, *rates[place + 1:], weight)
+    for three in (MILLION - 2, 1, 1), (MILLION - 2, 2, 1), (MILLION, 0, 1), (1, MILLION, 0), (MILLION - 1, 0, 0):
+        yield (*three, weight)
+    before = rows[k - 1][3] if k > FIRST else 1000
+    for weight in edges(1000, 100000, 2**32 - 1) + [before - 1, before]:
+        yield (*rates, weight)
+
+
+def member_edges(case):
+    r, y = case.plan.retire, case.member.entry
+    ranges = dict(id=(1, 999999999), entry=(FIRST, r - 1), age=(y, r), salary=(0, MOST_SALARY))
+    return [Change(member={field: value}) for field, of in ranges.items() for value in edges(*of, 2**64 - 1)]
+
+
+def at_edges(case):
+    return [changed(case, [change]) for change in plan_edges(case) + row_edges(case) + member_edges(case)]
+
+
+def at_some_edges(rng, case):
+    """Two fields or three at their bounds, so that the order of the refusals counts."""
+    kinds = rng.choices([plan_edges(case), row_edges(case), member_edges(case)], k=rng.choice([2, 3]))
+    return changed(case, [rng.choice(kind) for kind in kinds])
+
+
+def at_largest_benefit():
+    """About B(r) = 1000000.00, with equal weights and one year's pay: 25 goes by the rounded benefit."""
+    # Years of service at 5 percent, and a salary for which B(r) before its rounding is 100000000 cents and the tenths.
+    for service, salary, tenths in ((26, 76923077, 1), (24, 83333333, -4), (30, 66666667, 5), (24, 83333334, 8)):
+        for method in METHODS:
+            plan = Plan(0, 50, FINAL, 500, 1, method, 0, 1)
+            case = Case(plan, level_table(), Member(1, 50 - service, 40, salary))
+            assert 10 * (exact_benefit(*case, 50) - MOST_BENEFIT) == tenths
+            yield case
+
+
+def extreme_cases():
+    """No decrements, no interest, the largest benefit, the longest service, at the ends of the member's ages."""
+    for r in (50, 75):
+        for weights in (lambda k: 1000, lambda k: 100000, lambda k: 1000 if k < r - 1 else 100000):
+            rows = table(lambda k: (0, 0, 0), weights)
+            for method in METHODS:
+                for y in (FIRST, r - 1):
+                    for x in sorted({y, y + 1, r - 1, r}):
+                        plan = Plan(0, r, FINAL, 500, 1, method, MOST_ASSETS, 40)
+                        member = Member(1, y, x, 0)
+                        yield Case(plan, rows, member._replace(salary=largest_salary(plan, rows, member)))
+
+
+def straying_cases(rng):
+    """Rates with which every rounding pushes a figure the same way."""
+    shape = Shape(interest=1, retire=50, entry=FIRST, age=49, jump=1)
+    for method, figure, sign in product(METHODS, FIGURES, (1, -1)):
+        found = pushed(shape, method, figure, sign, rng)
+        yield Case(found.plan, found.rows, found.member)
+
+
+def generated(rng):
+    cases = [*at_largest_benefit(), *extreme_cases(), *straying_cases(rng)]
+    for formula in FORMULAS:
+        case = drawn_accepted(rng)
+        while case.plan.formula != formula:
+            case = drawn_accepted(rng)
+        cases += at_edges(case)
+    cases += [at_some_edges(rng, drawn_accepted(rng)) for _ in range(1000)]
+    return cases + [drawn_case(rng) for _ in range(2500)]
+
+
+# ---- comparing
+
+def stored_files():
+    cases = [case for case, _ in worked()]
+    return {
+        CRATE / 'stdin': b''.join(case.bytes() for case in cases),
+        CRATE / 'stdout': ''.join(f'{case.line()}\n' for case in cases).encode(),
+    }
+
+
+def differ(case, expected, said):
+    sys.exit(f'member_figures: {case.plan}\n{case.member}\n{case.rows}\n{expected}\n{said}')
+
+
+def answers(cases):
+    """What the program writes. A last case lacks a byte, so that it is no case."""
+    given = b''.join(case.bytes() for case in cases) + cases[0].bytes()[:-1]
+    said = subprocess.run([PROGRAM], input=given, stdout=subprocess.PIPE, check=True).stdout.decode()
+    lines = said.split('\n')
+    if len(lines) != len(cases) + 1 or lines.pop() != '':
+        sys.exit(f'member_figures: the program writes {said.count(chr(10))} lines for {len(cases)} cases')
+    return lines
+
+
+def check_exact(case, farthest):
+    """Holds a valued member to the limits and to the two forms of L, and keeps the farthest by method."""
+    method, x = case.plan.method, case.member.age
+    rounded, exact = rounded_costs(*case), exact_costs(*case)
+    N, L = strays(rounded, exact, method, x)
+    if max(N, L) > LIMIT or N > SHARP_N[method] or L > SHARP_L[method]:
+        differ(case, f'{METHOD_NAMES[method]}: N strays by {float(N)} and L by {float(L)}', 'which is over a limit')
+    if exact.L(method, x) != exact.future_cost_form(method, x):
+        differ(case, METHOD_NAMES[method], 'the exact L is not the exact V less the future normal costs')
+    farthest[method] = max(farthest[method][0], N), max(farthest[method][1], L)
+
+
+def check():
+    for path, made in stored_files().items():
+        if path.read_bytes() != made:
+            sys.exit(f'member_figures: {path} differs from what this program makes')
+    check_worked()
+    cases = [case for case, _ in worked()] + generated(random.Random(3))
+    refused, farthest = Counter(), {method: (0, 0) for method in METHODS}
+    for case, said in zip(cases, answers(cases)):
+        if said != case.line():
+            differ(case, f'the oracle gives {case.line()}', f'the program {said}')
+        if said.startswith('refused='):
+            refused[int(said.removeprefix('refused='))] += 1
+        else:
+            check_exact(case, farthest)
+    if set(refused) != REFUSALS:
+        sys.exit(f'member_figures: the cases give the refusals {sorted(refused)}')
+    report(len(cases), refused, farthest)
+
+
+def report(count, refused, farthest):
+    numbers = ', '.join(f'{number}: {refused[number]}' for number in sorted(refused))
+    cents = ', '.join(f'{METHOD_NAMES[m]} {float(N):.2f} and {float(L):.2f}' for m, (N, L) in farthest.items())
+    print(f'member_figures: {count - refused.total()} members valued; {refused.total()} refused ({numbers}); '
+          f'N and L at most so many cents from exact: {cents}')
+
+
+if __name__ == '__main__':
+    if sys.argv[1:] == ['--check']:
+        check()
+    elif sys.argv[1:] == ['--write']:
+        for path, made in stored_files().items():
+            path.write_bytes(made)
+    else:
+        sys.exit(__doc__)

@@ -1,0 +1,286 @@
+"""Document 01 (01-scope.md) worked in Python's own integers and fractions: another program, written from the paper.
+
+It is what the tests compare the Rattle programs with, so it follows the paper's sentences and letters and takes no
+rule from the crates. From crates/plan it takes the codes of plain values, and from crates/costs the sharper limits.
+
+Money is in cents. Rows are a dictionary from each age to its death, withdrawal, disability and weight.
+"""
+from fractions import Fraction
+from functools import cache
+from typing import NamedTuple
+
+FIRST, LAST = 15, 120
+AGES = range(FIRST, LAST + 1)
+MILLION = 1000000
+S = 1000000000
+MOST_ASSETS = 99999999999999  # 999999999999.99
+MOST_SALARY = 100000000  # 1000000.00
+MOST_BENEFIT = 100000000  # 1000000.00
+
+FORMULAS = FLAT, CAREER, FINAL = 1, 2, 3
+METHODS = AB, BD, BP, CD, CP = 1, 2, 3, 4, 5
+METHOD_NAMES = {AB: 'AB', BD: 'BD', BP: 'BP', CD: 'CD', CP: 'CP'}
+
+
+class Plan(NamedTuple):
+    interest: int
+    retire: int
+    formula: int
+    unit: int
+    average: int
+    method: int
+    assets: int
+    years: int
+
+
+class Member(NamedTuple):
+    id: int
+    entry: int
+    age: int
+    salary: int
+
+
+class Figures(NamedTuple):
+    """B(r), V, N and L; whole cents, or fractions of a cent."""
+    benefit: int
+    value: Fraction
+    cost: Fraction
+    liability: Fraction
+
+
+# ---- rows
+
+def table(rates, weights):
+    """Rows from the three rates and the weight of each age. At 120 all die."""
+    rows = {k: (*rates(k), weights(k)) for k in AGES}
+    rows[LAST] = (MILLION, 0, 0, weights(LAST))
+    return rows
+
+
+def short_table():
+    return table(lambda k: (0 if k <= 64 else MILLION, 0, 0), lambda k: 1000 if k <= 63 else 1100)
+
+
+# ---- rounding
+
+def nearest(n, d):
+    """n / d to the nearest whole, a half goes up; a negative quotient by its size, then given its sign."""
+    size = (2 * abs(n) + d) // (2 * d)
+    return -size if n < 0 else size
+
+
+# ---- acceptance: the number of a refusal, or 0 for none
+
+def outside(value, least, most, number):
+    return 0 if least <= value <= most else number
+
+
+def refusals_of_head(plan):
+    """Of the plan's own lines, in their order."""
+    yield outside(plan.interest, 0, 2000, 11)
+    yield outside(plan.retire, 50, 75, 11)
+    yield 0 if plan.formula in FORMULAS else 10
+    yield outside(plan.unit, 0, 100000 if plan.formula == FLAT else 500, 11)
+    yield outside(plan.average, 1, 10, 12) if plan.formula == FINAL else outside(plan.average, 0, 0, 12)
+    yield 0 if plan.method in METHODS else 10
+    yield outside(plan.assets, 0, MOST_ASSETS, 11)
+    yield outside(plan.years, 1, 40, 11)
+
+
+def refusal_of_row(rows, k):
+    """Of the row of age k: the least number of those that it gives."""
+    death, withdrawal, disability, weight = rows[k]
+    rates = death, withdrawal, disability
+    if any(outside(rate, 0, MILLION, 11) for rate in rates):
+        return 11
+    if sum(rates) > MILLION:
+        return 13
+    if k == LAST and death != MILLION:
+        return 14
+    falling = k > FIRST and weight < rows[k - 1][3]
+    return 15 if falling else outside(weight, 1000, 100000, 15)
+
+
+def refusal_of_plan(plan, rows):
+    """Of the plan and its rows, line by line."""
+    return first(refusals_of_head(plan)) or first(refusal_of_row(rows, k) for k in AGES)
+
+
+def refusals_of_member(plan, rows, member, id_before):
+    """Of a member line under an accepted plan, in rising order. The benefit is worked only where the others are 0."""
+    yield outside(member.id, id_before + 1, 999999999, 21)
+    yield outside(member.entry, FIRST, plan.retire - 1, 22)
+    yield outside(member.age, member.entry, plan.retire, 23)
+    yield outside(member.salary, 0, MOST_SALARY, 24)
+    B = [benefit(plan, rows, member, k) for k in range(member.entry, plan.retire + 1)]
+    yield outside(B[-1], 0, MOST_BENEFIT, 25)
+    yield 26 if any(after < before for before, after in zip(B, B[1:])) else 0
+
+
+def refusal_of_member(plan, rows, member, id_before=0):
+    """A lone member has no id before it, which is 0 here."""
+    return first(refusals_of_member(plan, rows, member, id_before))
+
+
+def first(refusals):
+    return next((number for number in refusals if number), 0)
+
+
+def refusal(plan, rows, member):
+    """Of a plan and a lone member handed in as plain values."""
+    return refusal_of_plan(plan, rows) or refusal_of_member(plan, rows, member)
+
+
+# ---- pay and benefit
+
+def pay(rows, member, ages):
+    """The pay of these ages, each s × W(j) / W(x), summed and exact."""
+    return Fraction(member.salary * sum(rows[j][3] for j in ages), rows[member.age][3])
+
+
+def exact_benefit(plan, rows, member, k):
+    """B(k) before its one rounding."""
+    u, n, y = plan.unit, plan.average, member.entry
+    if k == y:
+        return Fraction(0)
+    if plan.formula == FLAT:
+        return Fraction(u * (k - y))
+    if plan.formula == CAREER:
+        return Fraction(u, 10000) * pay(rows, member, range(y, k))
+    last = range(max(y, k - n), k)
+    return Fraction(u, 10000) * (k - y) * pay(rows, member, last) / len(last)
+
+
+def benefit(plan, rows, member, k):
+    """B(k), in whole cents."""
+    B = exact_benefit(plan, rows, member, k)
+    return nearest(B.numerator, B.denominator)
+
+
+# ---- factors
+
+class Factors:
+    """The factors of a plan's interest and retirement age and of its rows, in billionths.
+
+    `quotient` says what a division gives: `nearest` for the factors of the paper, `Fraction` for the exact ones. Each
+    letter gives its factors as a dictionary by age, from 15 up to the age that it starts from, and works them once.
+    """
+
+    def __init__(self, plan, rows, quotient):
+        self.i, self.r, self.rows, self.quotient = plan.interest, plan.retire, rows, quotient
+        self.G, self.T, self.Z = cache(self.G), cache(self.T), cache(self.Z)
+
+    def W(self, k):
+        return self.rows[k][3]
+
+    def P(self, k):
+        death, withdrawal, disability, _ = self.rows[k]
+        return MILLION - (death + withdrawal + disability if k < self.r else death)
+
+    def step(self, k, factor):
+        """The factor of age k+1, carried back to age k."""
+        return self.quotient(factor * self.P(k), 100 * (10000 + self.i))
+
+    def down(self, end, start, amount):
+        """`start` at the age `end`, and at each age below it its amount and the step of what follows."""
+        factors = {end: start}
+        for k in reversed(range(FIRST, end)):
+            factors[k] = amount(k) + self.step(k, factors[k + 1])
+        return factors
+
+    def A(self):
+        return self.down(LAST, S, lambda k: S)
+
+    def G(self):
+        return self.down(self.r, self.A()[self.r], lambda k: 0)
+
+    def T(self, e):
+        return self.down(e, 0, lambda k: S)
+
+    def Z(self, e):
+        return self.down(e, 0, lambda k: self.W(k) * S)
+
+
+# ---- figures
+
+class Costs:
+    """V, N and L of an accepted member at any age k from y through r, by any of the five methods.
+
+    They are the rounded ones or the exact fractions, as the factors are: the exact ones are the same equations with no
+    rounding after B.
+    """
+
+    def __init__(self, plan, rows, member, factors):
+        self.plan, self.rows, self.member, self.factors = plan, rows, member, factors
+        self.r, self.y = plan.retire, member.entry
+        self.G, self.T, self.Z, self.W = factors.G(), factors.T, factors.Z, factors.W
+        self.quotient = factors.quotient
+        self.B = cache(lambda k: benefit(plan, rows, member, k))
+
+    def weights(self, start, end):
+        """The weights of the ages from `start` to the one before `end`, summed."""
+        return sum(self.W(j) for j in range(start, end))
+
+    def V(self, k):
+        return self.quotient(self.B(self.r) * self.G[k], S)
+
+    def N(self, method, k):
+        r, y, quotient = self.r, self.y, self.quotient
+        if k == r:
+            return 0
+        if method == AB:
+            return quotient((self.B(k + 1) - self.B(k)) * self.G[k], S)
+        if method == BD:
+            return quotient(self.V(k), r - y)
+        if method == BP:
+            return quotient(self.V(k) * self.W(k), self.weights(y, r))
+        if method == CD:
+            return quotient(self.B(r) * self.G[y], self.T(r)[y])
+        return quotient(self.V(y) * self.W(k) * S, self.Z(r)[y])
+
+    def L(self, method, k):
+        r, y, quotient = self.r, self.y, self.quotient
+        if method == AB:
+            return quotient(self.B(k) * self.G[k], S)
+        if method == BD:
+            return quotient(self.V(k) * (k - y), r - y)
+        if method == BP:
+            return quotient(self.V(k) * self.weights(y, k), self.weights(y, r))
+        if method == CD:
+            return quotient(self.V(k) * self.T(k)[y], self.T(r)[y])
+        return quotient(self.V(k) * self.Z(k)[y], self.Z(r)[y])
+
+    def figures(self, method, k):
+        return Figures(self.B(self.r), self.V(k), self.N(method, k), self.L(method, k))
+
+    def future_cost_form(self, method, k):
+        """The benefits less the future normal costs: L's other form, where the factors are the exact ones."""
+        future, staying = 0, 1
+        for j in range(k, self.r):
+            future += self.N(method, j) * staying
+            staying = self.factors.step(j, staying)
+        return self.V(k) - future
+
+
+def rounded_costs(plan, rows, member):
+    return Costs(plan, rows, member, Factors(plan, rows, nearest))
+
+
+def exact_costs(plan, rows, member):
+    return Costs(plan, rows, member, Factors(plan, rows, Fraction))
+
+
+# ---- how far the printed figures stray from the exact ones
+
+LIMIT = 15
+# The sharper limits are not the paper's: crates/costs/specs/Demand3.antt states them.
+SHARP_N = {AB: Fraction('5.8'), BD: Fraction('6.3'), BP: Fraction('6.3'), CD: Fraction('9.35'), CP: Fraction('6.31')}
+SHARP_L = {AB: Fraction('5.8'), BD: Fraction('6.3'), BP: Fraction('6.3'), CD: Fraction('13.4'), CP: Fraction('6.31')}
+
+
+def strays(rounded, exact, method, k):
+    """How far N and L are from the exact ones, in cents; for the N of CP in W(k) / W(y) cents, as its limits are."""
+    unit = Fraction(exact.W(k), exact.W(exact.y)) if method == CP else 1
+    N = abs(rounded.N(method, k) - exact.N(method, k)) / unit
+    L = abs(rounded.L(method, k) - exact.L(method, k))
+    return N, L
