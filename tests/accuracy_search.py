@@ -139,11 +139,11 @@ def pushing_deaths(shape, parts, sign, rng):
     d = 100 * (10000 + shape.interest)
     deaths = {}
     for k in reversed(range(min(part.last for part in parts), LAST)):
-        pushed = [part for part in parts if part.last <= k < part.end]
-        pulls = [(part.factor, sign * part.power / part.size) for part in pushed]
+        carried = [part for part in parts if part.last <= k < part.end]
+        pulls = [(part.factor, sign * part.power / part.size) for part in carried]
         rates = rng.sample(range(HIGHEST_RATE), TRIED_RATES)
         deaths[k] = max(rates, key=lambda q: sum(pull * shift(f * (MILLION - q), d) for f, pull in pulls))
-        for part in pushed:
+        for part in carried:
             part.factor = part.amount(k) + nearest(part.factor * (MILLION - deaths[k]), d)
     return deaths
 
@@ -157,7 +157,7 @@ class Found(NamedTuple):
     member: Member
 
 
-def strayed(shape, method, figure, rows):
+def farthest_salary(shape, method, figure, rows):
     """The farthest over salaries just below the largest: they move the last roundings, and little else."""
     plan = shape.plan(method)
     rounded, exact = Factors(plan, rows, nearest), Factors(plan, rows, Fraction)
@@ -175,11 +175,13 @@ def farthest(found):
 
 
 def pushed(shape, method, figure, sign, rng):
+    """How far rates that push the figure of this shape one way bring it."""
     deaths = pushing_deaths(shape, parts(shape, method, figure), sign, rng)
-    return strayed(shape, method, figure, shape.rows(deaths))
+    return farthest_salary(shape, method, figure, shape.rows(deaths))
 
 
 def search(method, figure, rounds, rng):
+    """The farthest that the figure was found to stray by this method."""
     promising = sorted(shapes(), key=lambda shape: reach(shape, method, figure))[-TRIED_SHAPES:]
     tried = {(shape, sign): pushed(shape, method, figure, sign, rng) for shape, sign in product(promising, (1, -1))}
     kept = sorted(tried, key=lambda one: tried[one].far)[-KEPT_SHAPES:]
@@ -192,14 +194,14 @@ def report(found, figure):
     limit = LIMITS[figure][plan.method]
     print(f'{METHOD_NAMES[plan.method]} {figure}: {float(far):6.3f} found, {float(limit):6.3f} proved; '
           f'i {plan.interest}, r {plan.retire}, y {member.entry}, x {member.age}, '
-          f'W(r-1) {rows[plan.retire - 1][3] // 1000} times W(y)', flush=True)
+          f'W(r-1) {rows[plan.retire - 1][3] // rows[member.entry][3]} times W(y)', flush=True)
     if refusal(plan, rows, member) != 0:
         sys.exit('accuracy_search: it is not an accepted member')
     if far > limit:
         sys.exit(f'accuracy_search: it is over the limit: {plan} {member} {rows}')
 
 
-def main(rounds=20, seed=1):
+def main(rounds=30, seed=1):
     rng = random.Random(seed)
     for method, figure in product(METHODS, FIGURES):
         report(search(method, figure, rounds, rng), figure)

@@ -6,7 +6,7 @@ use Prim.Native.Nat.{ℕ}
 use Rattle.rounding.specs.Nearest.{nearest}
 use Rattle.fractions.specs.Ratio.{_over_, whole, _⊕_, _⊗_, inverse}
 use Rattle.annuity.specs.Recursion.{carried}
-use Rattle.annuity.specs.Basis.{staying}
+use Rattle.annuity.specs.Basis.{stays, staying}
 use Rattle.annuity.specs.Factors.{step, A, pension, G, T, Z}
 use Rattle.annuity.specs.Figures.{short, Figure, _is_, all-are, factors}
 use Rattle.plan.specs.declared.Plan.{Plan}
@@ -64,5 +64,5 @@ figures =
     ∷ []
 
 pub figures-are : all-are figures ≡ true
-unfolding figures factors short staying nearest carried step A pension G T Z _over_ whole _⊕_ _⊗_ inverse summed formulaOf pay pays exactBenefit B PV cost N L
+unfolding figures factors short stays staying nearest carried step A pension G T Z _over_ whole _⊕_ _⊗_ inverse summed formulaOf pay pays exactBenefit B PV cost N L
 figures-are = refl

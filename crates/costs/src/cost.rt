@@ -11,15 +11,15 @@ ghost use Rattle.costs.specs.Costs.{cost as Costs·cost};
 // N by any method: 0 from r on.
 pub fn normal_cost(
     p: Plan,
-    rows: [[u32; 4]; 106],
+    rows: &[[u32; 4]; 106],
     m: Member,
-    benefits: [u64; 106],
-    deferred: [u64; 106],
+    benefits: &[u64; 106],
+    deferred: &[u64; 106],
     method: Method,
     k: usize,
 ) -> u64
-    requires { ⌜ Ready p rows m benefits deferred × (m .entry ≤ k) × (k ≤ p .retire) ⌝ }
-    ensures { λ r. ⌜ r ≡ N (caseOf p rows m) method k ⌝ }
+    requires { ⌜ Ready p (now rows) m (now benefits) (now deferred) × (m .entry ≤ k) × (k ≤ p .retire) ⌝ }
+    ensures { λ r. ⌜ r ≡ N (caseOf p (now (rows .entry)) m) method k ⌝ }
 {
     if p.retire as usize <= k {
         return 0;
@@ -36,14 +36,14 @@ pub fn normal_cost(
 // AB: what accrues in the year.
 fn accrued_benefit(
     p: Plan,
-    rows: [[u32; 4]; 106],
+    rows: &[[u32; 4]; 106],
     m: Member,
-    benefits: [u64; 106],
-    deferred: [u64; 106],
+    benefits: &[u64; 106],
+    deferred: &[u64; 106],
     k: usize,
 ) -> u64
-    requires { ⌜ Ready p rows m benefits deferred × (m .entry ≤ k) × (k < p .retire) ⌝ }
-    ensures { λ r. ⌜ r ≡ Costs·cost (caseOf p rows m) AB k ⌝ }
+    requires { ⌜ Ready p (now rows) m (now benefits) (now deferred) × (m .entry ≤ k) × (k < p .retire) ⌝ }
+    ensures { λ r. ⌜ r ≡ Costs·cost (caseOf p (now (rows .entry)) m) AB k ⌝ }
 {
     let year = of_age(benefits, k + 1) - of_age(benefits, k);
     worth(year, of_age(deferred, k))
@@ -52,14 +52,14 @@ fn accrued_benefit(
 // BD: a level share of the years of service.
 fn benefit_by_years(
     p: Plan,
-    rows: [[u32; 4]; 106],
+    rows: &[[u32; 4]; 106],
     m: Member,
-    benefits: [u64; 106],
-    deferred: [u64; 106],
+    benefits: &[u64; 106],
+    deferred: &[u64; 106],
     k: usize,
 ) -> u64
-    requires { ⌜ Ready p rows m benefits deferred × (m .entry ≤ k) × (k < p .retire) ⌝ }
-    ensures { λ r. ⌜ r ≡ Costs·cost (caseOf p rows m) BD k ⌝ }
+    requires { ⌜ Ready p (now rows) m (now benefits) (now deferred) × (m .entry ≤ k) × (k < p .retire) ⌝ }
+    ensures { λ r. ⌜ r ≡ Costs·cost (caseOf p (now (rows .entry)) m) BD k ⌝ }
 {
     let value = present_value(p, rows, m, benefits, deferred, k);
     rounding::div_nearest(value, p.retire - m.entry)
@@ -68,31 +68,31 @@ fn benefit_by_years(
 // BP: a share in proportion to the pay.
 fn benefit_by_pay(
     p: Plan,
-    rows: [[u32; 4]; 106],
+    rows: &[[u32; 4]; 106],
     m: Member,
-    benefits: [u64; 106],
-    deferred: [u64; 106],
+    benefits: &[u64; 106],
+    deferred: &[u64; 106],
     k: usize,
 ) -> u64
-    requires { ⌜ Ready p rows m benefits deferred × (m .entry ≤ k) × (k < p .retire) ⌝ }
-    ensures { λ r. ⌜ r ≡ Costs·cost (caseOf p rows m) BP k ⌝ }
+    requires { ⌜ Ready p (now rows) m (now benefits) (now deferred) × (m .entry ≤ k) × (k < p .retire) ⌝ }
+    ensures { λ r. ⌜ r ≡ Costs·cost (caseOf p (now (rows .entry)) m) BP k ⌝ }
 {
     let value = present_value(p, rows, m, benefits, deferred, k);
-    let all = plan::benefit::weights_between(rows, m.entry, p.retire);
-    share(value, annuity::weight(rows, k), all)
+    let all = plan::benefit::weights_between(*rows, m.entry, p.retire);
+    share(value, annuity::weight(*rows, k), all)
 }
 
 // CD: a level amount from entry on.
 fn cost_by_years(
     p: Plan,
-    rows: [[u32; 4]; 106],
+    rows: &[[u32; 4]; 106],
     m: Member,
-    benefits: [u64; 106],
-    deferred: [u64; 106],
+    benefits: &[u64; 106],
+    deferred: &[u64; 106],
     k: usize,
 ) -> u64
-    requires { ⌜ Ready p rows m benefits deferred × (m .entry ≤ k) × (k < p .retire) ⌝ }
-    ensures { λ r. ⌜ r ≡ Costs·cost (caseOf p rows m) CD k ⌝ }
+    requires { ⌜ Ready p (now rows) m (now benefits) (now deferred) × (m .entry ≤ k) × (k < p .retire) ⌝ }
+    ensures { λ r. ⌜ r ≡ Costs·cost (caseOf p (now (rows .entry)) m) CD k ⌝ }
 {
     let all = working_from_entry(p, rows, m, p.retire as usize);
     let benefit = of_age(benefits, p.retire as usize);
@@ -102,16 +102,16 @@ fn cost_by_years(
 // CP: a level share of the pay from entry on.
 fn cost_by_pay(
     p: Plan,
-    rows: [[u32; 4]; 106],
+    rows: &[[u32; 4]; 106],
     m: Member,
-    benefits: [u64; 106],
-    deferred: [u64; 106],
+    benefits: &[u64; 106],
+    deferred: &[u64; 106],
     k: usize,
 ) -> u64
-    requires { ⌜ Ready p rows m benefits deferred × (m .entry ≤ k) × (k < p .retire) ⌝ }
-    ensures { λ r. ⌜ r ≡ Costs·cost (caseOf p rows m) CP k ⌝ }
+    requires { ⌜ Ready p (now rows) m (now benefits) (now deferred) × (m .entry ≤ k) × (k < p .retire) ⌝ }
+    ensures { λ r. ⌜ r ≡ Costs·cost (caseOf p (now (rows .entry)) m) CP k ⌝ }
 {
     let value = present_value(p, rows, m, benefits, deferred, m.entry as usize);
     let all = pay_from_entry(p, rows, m, p.retire as usize);
-    rounding::mul_mul_div_nearest(value, annuity::weight(rows, k), annuity::S, all)
+    rounding::mul_mul_div_nearest(value, annuity::weight(*rows, k), annuity::S, all)
 }

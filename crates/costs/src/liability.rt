@@ -10,15 +10,15 @@ ghost use Rattle.costs.specs.Costs.{L};
 // L by any method.
 pub fn liability(
     p: Plan,
-    rows: [[u32; 4]; 106],
+    rows: &[[u32; 4]; 106],
     m: Member,
-    benefits: [u64; 106],
-    deferred: [u64; 106],
+    benefits: &[u64; 106],
+    deferred: &[u64; 106],
     method: Method,
     k: usize,
 ) -> u64
-    requires { ⌜ Ready p rows m benefits deferred × (m .entry ≤ k) × (k ≤ p .retire) ⌝ }
-    ensures { λ r. ⌜ r ≡ L (caseOf p rows m) method k ⌝ }
+    requires { ⌜ Ready p (now rows) m (now benefits) (now deferred) × (m .entry ≤ k) × (k ≤ p .retire) ⌝ }
+    ensures { λ r. ⌜ r ≡ L (caseOf p (now (rows .entry)) m) method k ⌝ }
 {
     match method {
         Method::AB => accrued_benefit(p, rows, m, benefits, deferred, k),
@@ -32,14 +32,14 @@ pub fn liability(
 // AB: what has accrued.
 fn accrued_benefit(
     p: Plan,
-    rows: [[u32; 4]; 106],
+    rows: &[[u32; 4]; 106],
     m: Member,
-    benefits: [u64; 106],
-    deferred: [u64; 106],
+    benefits: &[u64; 106],
+    deferred: &[u64; 106],
     k: usize,
 ) -> u64
-    requires { ⌜ Ready p rows m benefits deferred × (m .entry ≤ k) × (k ≤ p .retire) ⌝ }
-    ensures { λ r. ⌜ r ≡ L (caseOf p rows m) AB k ⌝ }
+    requires { ⌜ Ready p (now rows) m (now benefits) (now deferred) × (m .entry ≤ k) × (k ≤ p .retire) ⌝ }
+    ensures { λ r. ⌜ r ≡ L (caseOf p (now (rows .entry)) m) AB k ⌝ }
 {
     let benefit = of_age(benefits, k);
     worth(benefit, of_age(deferred, k))
@@ -48,14 +48,14 @@ fn accrued_benefit(
 // BD: the share of the years of service.
 fn benefit_by_years(
     p: Plan,
-    rows: [[u32; 4]; 106],
+    rows: &[[u32; 4]; 106],
     m: Member,
-    benefits: [u64; 106],
-    deferred: [u64; 106],
+    benefits: &[u64; 106],
+    deferred: &[u64; 106],
     k: usize,
 ) -> u64
-    requires { ⌜ Ready p rows m benefits deferred × (m .entry ≤ k) × (k ≤ p .retire) ⌝ }
-    ensures { λ r. ⌜ r ≡ L (caseOf p rows m) BD k ⌝ }
+    requires { ⌜ Ready p (now rows) m (now benefits) (now deferred) × (m .entry ≤ k) × (k ≤ p .retire) ⌝ }
+    ensures { λ r. ⌜ r ≡ L (caseOf p (now (rows .entry)) m) BD k ⌝ }
 {
     let value = present_value(p, rows, m, benefits, deferred, k);
     share(value, k as u64 - m.entry, p.retire - m.entry)
@@ -64,32 +64,32 @@ fn benefit_by_years(
 // BP: the share of the pay.
 fn benefit_by_pay(
     p: Plan,
-    rows: [[u32; 4]; 106],
+    rows: &[[u32; 4]; 106],
     m: Member,
-    benefits: [u64; 106],
-    deferred: [u64; 106],
+    benefits: &[u64; 106],
+    deferred: &[u64; 106],
     k: usize,
 ) -> u64
-    requires { ⌜ Ready p rows m benefits deferred × (m .entry ≤ k) × (k ≤ p .retire) ⌝ }
-    ensures { λ r. ⌜ r ≡ L (caseOf p rows m) BP k ⌝ }
+    requires { ⌜ Ready p (now rows) m (now benefits) (now deferred) × (m .entry ≤ k) × (k ≤ p .retire) ⌝ }
+    ensures { λ r. ⌜ r ≡ L (caseOf p (now (rows .entry)) m) BP k ⌝ }
 {
     let value = present_value(p, rows, m, benefits, deferred, k);
-    let past = plan::benefit::weights_between(rows, m.entry, k as u64);
-    let all = plan::benefit::weights_between(rows, m.entry, p.retire);
+    let past = plan::benefit::weights_between(*rows, m.entry, k as u64);
+    let all = plan::benefit::weights_between(*rows, m.entry, p.retire);
     share(value, past, all)
 }
 
 // CD: the share of the working annuity from entry.
 fn cost_by_years(
     p: Plan,
-    rows: [[u32; 4]; 106],
+    rows: &[[u32; 4]; 106],
     m: Member,
-    benefits: [u64; 106],
-    deferred: [u64; 106],
+    benefits: &[u64; 106],
+    deferred: &[u64; 106],
     k: usize,
 ) -> u64
-    requires { ⌜ Ready p rows m benefits deferred × (m .entry ≤ k) × (k ≤ p .retire) ⌝ }
-    ensures { λ r. ⌜ r ≡ L (caseOf p rows m) CD k ⌝ }
+    requires { ⌜ Ready p (now rows) m (now benefits) (now deferred) × (m .entry ≤ k) × (k ≤ p .retire) ⌝ }
+    ensures { λ r. ⌜ r ≡ L (caseOf p (now (rows .entry)) m) CD k ⌝ }
 {
     let value = present_value(p, rows, m, benefits, deferred, k);
     let past = working_from_entry(p, rows, m, k);
@@ -100,14 +100,14 @@ fn cost_by_years(
 // CP: the share of the pay annuity from entry.
 fn cost_by_pay(
     p: Plan,
-    rows: [[u32; 4]; 106],
+    rows: &[[u32; 4]; 106],
     m: Member,
-    benefits: [u64; 106],
-    deferred: [u64; 106],
+    benefits: &[u64; 106],
+    deferred: &[u64; 106],
     k: usize,
 ) -> u64
-    requires { ⌜ Ready p rows m benefits deferred × (m .entry ≤ k) × (k ≤ p .retire) ⌝ }
-    ensures { λ r. ⌜ r ≡ L (caseOf p rows m) CP k ⌝ }
+    requires { ⌜ Ready p (now rows) m (now benefits) (now deferred) × (m .entry ≤ k) × (k ≤ p .retire) ⌝ }
+    ensures { λ r. ⌜ r ≡ L (caseOf p (now (rows .entry)) m) CP k ⌝ }
 {
     let value = present_value(p, rows, m, benefits, deferred, k);
     let past = pay_from_entry(p, rows, m, k);

@@ -12,7 +12,7 @@ use plan::{Member, Method, Plan};
 ghost use mathlib.Core.Path.{_≡_};
 ghost use Prim.Native.Nat.{_≤_};
 ghost use Rattle.plan.specs.Acceptance.{AcceptedMember, Accrued};
-ghost use Rattle.costs.specs.Valuation.{methodOf, figuresAt, figures, valuation, Limited};
+ghost use Rattle.costs.specs.Valuation.{Ready, methodOf, figuresAt, figures, valuation, Limited};
 
 // The benefit B(r), its present value V, the normal cost N and the liability L, in cents.
 pub struct Figures {
@@ -64,6 +64,22 @@ pub fn figures_at(
     ensures { λ f. ⌜ f ≡ figuresAt p rows m method k ⌝ }
 {
     let deferred = annuity::deferred_annuity(rows, p.retire as usize, p.interest);
+    figures_by(p, &rows, m, &benefits, &deferred, method, k)
+}
+
+// The same from the plan's factors.
+fn figures_by(
+    p: Plan,
+    rows: &[[u32; 4]; 106],
+    m: Member,
+    benefits: &[u64; 106],
+    deferred: &[u64; 106],
+    method: Method,
+    k: usize,
+) -> Figures
+    requires { ⌜ Ready p (now rows) m (now benefits) (now deferred) × (m .entry ≤ k) × (k ≤ p .retire) ⌝ }
+    ensures { λ f. ⌜ f ≡ figuresAt p (now (rows .entry)) m method k ⌝ }
+{
     let benefit = parts::of_age(benefits, p.retire as usize);
     let value = parts::present_value(p, rows, m, benefits, deferred, k);
     let cost = cost::normal_cost(p, rows, m, benefits, deferred, method, k);

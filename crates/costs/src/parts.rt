@@ -10,9 +10,9 @@ ghost use Rattle.costs.specs.Valuation.{Ready, caseOf, planBasis};
 ghost use Rattle.costs.specs.Costs.{PV};
 
 // What an array of the ages holds for age k.
-pub fn of_age(a: [u64; 106], k: usize) -> u64
+pub fn of_age(a: &[u64; 106], k: usize) -> u64
     requires { ⌜ (15 ≤ k) × (k ≤ 120) ⌝ }
-    ensures { λ r. ⌜ r ≡ getD a (k - 15) 0 ⌝ }
+    ensures { λ r. ⌜ r ≡ getD (now (a .entry)) (k - 15) 0 ⌝ }
 {
     a[k - 15]
 }
@@ -36,33 +36,33 @@ pub fn share(value: u64, part: u64, whole: u64) -> u64
 // V(k).
 pub fn present_value(
     p: Plan,
-    rows: [[u32; 4]; 106],
+    rows: &[[u32; 4]; 106],
     m: Member,
-    benefits: [u64; 106],
-    deferred: [u64; 106],
+    benefits: &[u64; 106],
+    deferred: &[u64; 106],
     k: usize,
 ) -> u64
-    requires { ⌜ Ready p rows m benefits deferred × (m .entry ≤ k) × (k ≤ p .retire) ⌝ }
-    ensures { λ r. ⌜ r ≡ PV (caseOf p rows m) k ⌝ }
+    requires { ⌜ Ready p (now rows) m (now benefits) (now deferred) × (m .entry ≤ k) × (k ≤ p .retire) ⌝ }
+    ensures { λ r. ⌜ r ≡ PV (caseOf p (now (rows .entry)) m) k ⌝ }
 {
     let benefit = of_age(benefits, p.retire as usize);
     worth(benefit, of_age(deferred, k))
 }
 
 // T(y,e), for an age e of the member.
-pub fn working_from_entry(p: Plan, rows: [[u32; 4]; 106], m: Member, e: usize) -> u64
-    requires { ⌜ AcceptedMember p rows m × (m .entry ≤ e) × (e ≤ p .retire) ⌝ }
-    ensures { λ r. ⌜ r ≡ T (planBasis p rows) (m .entry) e ⌝ }
+pub fn working_from_entry(p: Plan, rows: &[[u32; 4]; 106], m: Member, e: usize) -> u64
+    requires { ⌜ AcceptedMember p (now rows) m × (m .entry ≤ e) × (e ≤ p .retire) ⌝ }
+    ensures { λ r. ⌜ r ≡ T (planBasis p (now (rows .entry))) (m .entry) e ⌝ }
 {
-    let annuity = annuity::working_annuity(rows, p.retire as usize, p.interest, e);
-    of_age(annuity, m.entry as usize)
+    let annuity = annuity::working_annuity(*rows, p.retire as usize, p.interest, e);
+    of_age(&annuity, m.entry as usize)
 }
 
 // Z(y,e), for an age e of the member.
-pub fn pay_from_entry(p: Plan, rows: [[u32; 4]; 106], m: Member, e: usize) -> u64
-    requires { ⌜ AcceptedMember p rows m × (m .entry ≤ e) × (e ≤ p .retire) ⌝ }
-    ensures { λ r. ⌜ r ≡ Z (planBasis p rows) (m .entry) e ⌝ }
+pub fn pay_from_entry(p: Plan, rows: &[[u32; 4]; 106], m: Member, e: usize) -> u64
+    requires { ⌜ AcceptedMember p (now rows) m × (m .entry ≤ e) × (e ≤ p .retire) ⌝ }
+    ensures { λ r. ⌜ r ≡ Z (planBasis p (now (rows .entry))) (m .entry) e ⌝ }
 {
-    let annuity = annuity::pay_annuity(rows, p.retire as usize, p.interest, e);
-    of_age(annuity, m.entry as usize)
+    let annuity = annuity::pay_annuity(*rows, p.retire as usize, p.interest, e);
+    of_age(&annuity, m.entry as usize)
 }

@@ -3,17 +3,21 @@
 // first: the plan's interest, retire, formula, unit, average, method, assets and years in 8 each, then for each age 15
 // to 120 its death, withdrawal, disability and weight in 4 each, then the member's id, entry, age and salary in 8 each.
 // What it must write was made by another program, tests/member_figures.py.
-use costs::{Figures, Valuation};
+use costs::Figures;
+use costs::Valuation;
 use libc::STDIN_FILENO;
 use libc::STDOUT_FILENO;
-use plan::{Member, Plan};
+use plan::Member;
+use plan::Plan;
 ghost use Prim.Native.Nat.{_+_, _≤_, _<_};
 
 // How many bytes a case has.
 const SIZE: usize = 1792;
 
-// The places of the first row and of the member.
+// The place of the first row.
 const ROWS: usize = 64;
+
+// The place of the member.
 const MEMBER: usize = 1760;
 
 // A proved loop has to end, and nothing says that the input does: no run uses up these turns.

@@ -7,20 +7,21 @@ use Rattle.costs.proofs.parts.pay_from_entry.Tie as tie
 
 pay-annuity-requires : tie.Need-pay-annuity-requires
 pay-annuity-requires c κs =
-    let a = c .args in
-    let f = facts (a .p) (a .rows) (a .m) (c .pre .0) in
-    (f .table, f .head .interest, omega (arith, c .pre .0 .placed .grown), omega (arith, f .head .retire .1))
+    let s = c .before in
+    let a = s .args in
+    let f = facts (a .p) (a .rows .now) (a .m) (s .pre .0) in
+    (f .table, f .head .interest, omega (arith, s .pre .0 .placed .grown), omega (arith, f .head .retire .1))
 
 of-age-requires : tie.Need-of-age-requires
 of-age-requires c κs =
-    let s = c .before in
-    let f = facts (s .args .p) (s .args .rows) (s .args .m) (s .pre .0) in
+    let s = c .before .before .before in
+    let f = facts (s .args .p) (s .args .rows .now) (s .args .m) (s .pre .0) in
     (s .pre .0 .placed .grown, omega (arith, s .pre .1, s .pre .2, f .head .retire .1))
 
 returns : tie.Need-returns
 returns c =
-    let s = c .before .before in
-    c .of-age .ensures ∙ c .before .pay-annuity .ensures .upto (s .args .m .entry) (s .pre .0 .placed .grown) (s .pre .1)
+    let s = c .before .before .before .before in
+    c .of-age .ensures ∙ c .before .before .pay-annuity .ensures .upto (s .args .m .entry) (s .pre .0 .placed .grown) (s .pre .1)
 
 pub pay-from-entry-spec : {M : Type 1} → statement M
 pay-from-entry-spec = tie.close (tie.spec pay-annuity-requires of-age-requires returns)
