@@ -1,8 +1,8 @@
 -- How far each rounded factor lies from its exact fraction.
-use Prim.Native.Nat.{ℕ, _+_, _-_, _*_, _≤_, _<_}
+use Prim.Native.Nat.{ℕ, _-_, _*_, _≤_, _<_}
 use native.Mathlib.Nat.{le-refl, mul-le-mul-right}
 use native.Mathlib.Omega.{arith}
-use Rattle.fractions.specs.Ratio.{Ratio, _over_, whole}
+use Rattle.fractions.specs.Ratio.{_over_, whole}
 use Rattle.annuity.specs.Basis.{Basis, Fair, certain}
 use Rattle.annuity.specs.Factors.{S, A, A*, pension, pension*, G, G*, T, T*, Z, Z*, C, C*}
 use Rattle.annuity.specs.Accuracy.{A-Accuracy, G-Accuracy, T-Accuracy, Z-Accuracy, C-Accuracy}

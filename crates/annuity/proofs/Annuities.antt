@@ -1,16 +1,14 @@
 -- Payments of any yearly amounts w(k), w(k+1), .. at the start of each year, for those who stay, rounded and exact: what A, T, Z and C share.
 -- Beside them what is only carried back, as G is.
-use mathlib.Core.Path.{_≡_}
-use Prim.Native.Nat.{ℕ, zero, suc, _+_, _-_, _*_, _≤_, _<_}
+use Prim.Native.Nat.{ℕ, suc, _+_, _*_, _≤_, _<_}
 use native.Mathlib.Nat.{le-refl, add-zero, add-suc}
 use native.Mathlib.Omega.{arith}
-use Rattle.rounding.specs.Nearest.{nearest}
-use Rattle.fractions.specs.Ratio.{Ratio, _over_, whole, _⊕_, _⊗_, Proper, Positive, _≼_}
+use Rattle.fractions.specs.Ratio.{Ratio, whole, _⊕_, Proper, Positive, _≼_}
 use Rattle.fractions.proofs.RatioLaws.{whole-proper, over-proper, ⊕-proper, ⊗-proper, whole-positive, ⊕-positive, whole-⊕}
 use Rattle.fractions.proofs.OrderLaws.{zero-≼, ≼-refl, ≼-⊕, _∙≼_, ⊕-mono, ⊗-mono, whole-≼}
 use Rattle.annuity.specs.Recursion.{carried}
 use Rattle.annuity.specs.Basis.{Basis, Fair}
-use Rattle.annuity.specs.Factors.{S, step, step*}
+use Rattle.annuity.specs.Factors.{step, step*}
 use Rattle.annuity.proofs.Carried.{carried-both, carried-each, carried-split}
 use Rattle.annuity.proofs.Distance.{Halves, Part}
 use Rattle.annuity.proofs.YearStep.{step-mono, step-shrinks, exact-step-shrinks, step-halves, step-part}
@@ -69,8 +67,8 @@ module _ (b : Basis) where
     annuity*-most w s start m k n first amounts =
         carried-each (λ n f. f ≼ whole ((m + n) * s)) (paying* w) start (rw (add-zero m) first) k n
         (λ j n from to f le.
-            ⊕-mono (whole-≼ (amounts j from to)) (step*-le j (le .left) ∙≼ le)
-            ∙≼ rw whole-⊕ (whole-≼ (omega arith)))
+        ⊕-mono (whole-≼ (amounts j from to)) (step*-le j (le .left) ∙≼ le)
+        ∙≼ rw whole-⊕ (whole-≼ (omega arith)))
 
     pub deferred-most : (start k n : ℕ) → carried (step b) start k n ≤ start
     deferred-most start k n =
@@ -105,7 +103,7 @@ module _ (b : Basis) where
     deferred-halves m start start* k n first =
         carried-both (λ n f g. Halves (m + n) f g) (step b) (step* b) start start* (rw (add-zero m) first) k n
         (λ j n from to f g near.
-            rw (add-suc m n) (step-halves (m + n) f g (b .P j) _ (omega arith) (omega (arith, fair .stays j)) near))
+        rw (add-suc m n) (step-halves (m + n) f g (b .P j) _ (omega arith) (omega (arith, fair .stays j)) near))
 
   pub annuity*-longer : (w : ℕ → ℕ) (k n d : ℕ) → carried (paying* w) (whole 0) k n ≼ carried (paying* w) (whole 0) k (n + d)
   unfolding step*

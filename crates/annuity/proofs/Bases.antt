@@ -1,7 +1,7 @@
 -- The bases at hand are fair.
 use mathlib.Core.Bool.{Bool, true, false, cond}
 use mathlib.Core.List.{List}
-use Prim.Native.Nat.{ℕ, _+_, _-_, _≤_}
+use Prim.Native.Nat.{ℕ, _≤_}
 use native.Mathlib.Omega.{arith}
 use lib.Dec.{ltb}
 use Rattle.annuity.specs.Basis.{row, Sound, Table, Fair, stays, staying, basis, certain}

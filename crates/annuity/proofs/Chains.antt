@@ -1,11 +1,11 @@
 -- Chain facts of the exact factors: what is carried from k to r is carried from k to j and from j to r, and an annuity that ends a year later has one payment more.
 -- Nothing divides by staying, which may be 0.
 use mathlib.Core.Path.{_≡_, sym, ap, _∙_}
-use Prim.Native.Nat.{ℕ, zero, suc, _+_, _-_, _*_, _≤_, _<_}
+use Prim.Native.Nat.{ℕ, zero, suc, _+_, _-_, _*_, _≤_}
 use native.Mathlib.Omega.{arith}
 use Rattle.fractions.specs.Ratio.{Ratio, _over_, whole, _⊕_, _⊗_, Proper, _≈_}
-use Rattle.fractions.proofs.RatioLaws.{⊕-assoc, ⊕-zero, zero-⊕, ⊗-comm, ⊗-one, one-⊗, whole-proper, over-proper, ⊗-proper, AC, proper}
-use Rattle.fractions.proofs.EqualLaws.{≈-refl, ≈-of, ≈-sym, _∙≈_, ⊕-cong, ⊗-cong, zero-⊗, ⊕-⊗}
+use Rattle.fractions.proofs.RatioLaws.{⊕-assoc, ⊕-zero, zero-⊕, one-⊗, whole-proper, over-proper, ⊗-proper, AC, proper}
+use Rattle.fractions.proofs.EqualLaws.{≈-refl, ≈-of, _∙≈_, ⊕-cong, ⊗-cong, zero-⊗, ⊕-⊗}
 use Rattle.annuity.specs.Recursion.{carried}
 use Rattle.annuity.specs.Basis.{Basis}
 use Rattle.annuity.specs.Factors.{S, step*, pension*, G*, T*, Z*, v}

@@ -1,15 +1,14 @@
 -- An array that is filled from its last age down, and the one factor that it is filled with.
-use mathlib.Core.Path.{_≡_, refl, sym, ap, _∙_}
+use mathlib.Core.Path.{_≡_, refl, _∙_}
 use mathlib.Core.List.{List, []}
 use mathlib.Core.Logic.{⊎-elim}
 use Prim.Native.Nat.{ℕ, _+_, _-_, _*_, _≤_, _<_}
 use native.Mathlib.Nat.{zero-add, eq-or-lt-of-le, mul-le-mul-right}
 use native.Mathlib.Omega.{arith}
-use lib.ListN.{length, getD, set, replicate, length-set, getD-replicate}
+use lib.ListN.{getD, set, replicate, length-set, getD-replicate}
 use lib.Seq.{getD-set-same, getD-set-other}
 use Rattle.annuity.specs.declared.Amount.{Amount}
 use Rattle.annuity.specs.declared.Amount.the-variants.{Nothing, One, Weight}
-use Rattle.annuity.specs.Recursion.{carried}
 use Rattle.rounding.specs.Nearest.{nearest}
 use Rattle.annuity.specs.Basis.{Basis, Fair, stays, staying, basis}
 use Rattle.annuity.specs.Factors.{S, step, A, pension, G, T, Z}
@@ -75,7 +74,7 @@ pub factor-most : (b : Basis) → Fair b → (amount : Amount) (top start k : �
 unfolding factor
 factor-most b fair amount top start k high low st weights =
     let m = annuity-most b fair (λ j. amountOf (b .W j) amount) (100000 * S) start 1 k (top - k) (omega arith)
-            (λ j from to. amount-le (b .W j) amount (weights j (omega arith) (omega arith))) in
+    (λ j from to. amount-le (b .W j) amount (weights j (omega arith) (omega arith))) in
     omega (arith, m, mul-le-mul-right {m = 1 + (top - k)} {n = 107} (100000 * S) (omega arith))
 
 -- ---- A, G, T and Z are cases of it

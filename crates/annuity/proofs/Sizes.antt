@@ -1,16 +1,15 @@
 -- How large the factors are, rounded and exact: at most so many payments, and no less for a later end. Every exact lower is above 0.
 use mathlib.Core.Path.{_≡_}
-use Prim.Native.Nat.{ℕ, zero, suc, _+_, _-_, _*_, _≤_, _<_}
+use Prim.Native.Nat.{ℕ, suc, _+_, _-_, _*_, _≤_, _<_}
 use native.Mathlib.Nat.{le-refl, mul-le-mul-right}
 use native.Mathlib.Omega.{arith}
-use Rattle.fractions.specs.Ratio.{Ratio, whole, Proper, Positive, _≼_}
+use Rattle.fractions.specs.Ratio.{whole, Proper, Positive, _≼_}
 use Rattle.fractions.proofs.RatioLaws.{whole-proper}
-use Rattle.fractions.proofs.OrderLaws.{_∙≼_, ≼-refl, whole-≼}
-use Rattle.annuity.specs.Recursion.{carried}
+use Rattle.fractions.proofs.OrderLaws.{_∙≼_, whole-≼}
 use Rattle.annuity.specs.Basis.{Basis, Fair, certain}
 use Rattle.annuity.specs.Factors.{S, A, A*, pension, pension*, G, G*, T, T*, Z, Z*, v, C, C*}
 use Rattle.annuity.proofs.Bases.{certain-fair}
-use Rattle.annuity.proofs.Annuities.{paying, paying*, deferred-proper, annuity-proper, annuity-least, annuity*-least, annuity-positive, annuity-most, annuity*-most, deferred-most, deferred*-most, annuity-longer, annuity*-longer}
+use Rattle.annuity.proofs.Annuities.{deferred-proper, annuity-proper, annuity-least, annuity*-least, annuity-positive, annuity-most, annuity*-most, deferred-most, deferred*-most, annuity-longer, annuity*-longer}
 
 module _ (b : Basis) where
   -- ---- every exact lower is above 0

@@ -1,5 +1,5 @@
 -- How far each rounded factor lies from its exact fraction, in billionths. Proved in proofs/Accuracy.antt.
-use Prim.Native.Nat.{ℕ, _+_, _-_, _*_, _≤_, _<_}
+use Prim.Native.Nat.{ℕ, _-_, _*_, _≤_, _<_}
 use Rattle.fractions.specs.Ratio.{Ratio, _over_, whole, _⊗_}
 use Rattle.fractions.specs.Fraction.{fraction, Apart}
 use Rattle.annuity.specs.Basis.{Basis, Fair}

@@ -1,7 +1,7 @@
 -- What the factors rest on. Document 01, 'The case file': "row=age,death,withdrawal,disability,weight for ages 15 to 120 in turn."
 use mathlib.Core.Bool.{cond}
 use mathlib.Core.List.{List, []}
-use Prim.Native.Nat.{ℕ, _+_, _-_, _≤_, _<_}
+use Prim.Native.Nat.{ℕ, _+_, _-_, _≤_}
 use lib.ListN.{getD}
 use lib.Dec.{ltb}
 

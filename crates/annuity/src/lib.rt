@@ -4,7 +4,7 @@
 // serves A, G, T and Z. An array has a place for each of the 106 ages; age k stands at place k - 15.
 // Each `requires` is what an accepted plan shows.
 ghost use mathlib.Core.Path.{_≡_};
-ghost use Prim.Native.Nat.{ℕ, _+_, _*_, _≤_, _<_};
+ghost use Prim.Native.Nat.{_+_, _*_, _≤_, _<_};
 ghost use lib.ListN.{getD};
 ghost use Rattle.rounding.specs.Nearest.{nearest};
 ghost use Rattle.annuity.specs.Basis.{Sound, Table, basis, stays};

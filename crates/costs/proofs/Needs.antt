@@ -1,13 +1,13 @@
 -- What is known of an accepted member: its case is sound, and what its arrays hold is small enough for the products.
-use mathlib.Core.Path.{_≡_, sym, ap, _∙_}
+use mathlib.Core.Path.{_≡_}
 use mathlib.Core.List.{List}
-use Prim.Native.Nat.{ℕ, suc, _+_, _-_, _*_, _^_, _≤_, _<_}
+use Prim.Native.Nat.{ℕ, _+_, _-_, _*_, _^_, _≤_, _<_}
 use native.Mathlib.Nat.{mul-le-mul, mul-le-mul-right}
 use native.Mathlib.Omega.{arith}
-use lib.ListN.{length, getD}
+use lib.ListN.{getD}
 use Rattle.rounding.specs.Nearest.{nearest}
 use Rattle.rounding.proofs.NearestLaws.{nearest-le, nearest-mono, nearest-exact, nearest-shrinks}
-use Rattle.annuity.specs.Basis.{weight, Table}
+use Rattle.annuity.specs.Basis.{weight}
 use Rattle.annuity.specs.Factors.{S, G}
 use Rattle.annuity.proofs.Bases.{basis-fair}
 use Rattle.annuity.proofs.Sizes.{G-most}

@@ -1,5 +1,4 @@
 -- The figures of a plan and a member handed in as plain values, and the answer of `value_member`.
-use mathlib.Core.Path.{_≡_}
 use mathlib.Core.Bool.{cond}
 use mathlib.Core.List.{List}
 use Prim.Native.Nat.{ℕ}

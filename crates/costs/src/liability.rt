@@ -1,6 +1,13 @@
 // The liability L, method by method.
-use crate::parts::{of_age, pay_from_entry, present_value, share, working_from_entry, worth};
-use plan::{Member, Method, Plan};
+use crate::parts::of_age;
+use crate::parts::pay_from_entry;
+use crate::parts::present_value;
+use crate::parts::share;
+use crate::parts::working_from_entry;
+use crate::parts::worth;
+use plan::Member;
+use plan::Method;
+use plan::Plan;
 ghost use mathlib.Core.Path.{_≡_};
 ghost use Prim.Native.Nat.{_≤_};
 ghost use Rattle.plan.specs.declared.Method.the-variants.{AB, BD, BP, CD, CP};

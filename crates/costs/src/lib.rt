@@ -7,8 +7,10 @@ pub mod cost;
 pub mod liability;
 pub mod parts;
 
+use plan::Member;
+use plan::Method;
+use plan::Plan;
 use plan::acceptance::judge_lone_member;
-use plan::{Member, Method, Plan};
 ghost use mathlib.Core.Path.{_≡_};
 ghost use Prim.Native.Nat.{_≤_};
 ghost use Rattle.plan.specs.Acceptance.{AcceptedMember, Accrued};

@@ -1,5 +1,6 @@
 // What the methods share: a benefit's worth, a share of a value, and the two annuities from entry.
-use plan::{Member, Plan};
+use plan::Member;
+use plan::Plan;
 ghost use mathlib.Core.Path.{_≡_};
 ghost use Prim.Native.Nat.{_-_, _*_, _≤_, _<_};
 ghost use lib.ListN.{getD};

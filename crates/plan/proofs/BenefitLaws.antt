@@ -8,7 +8,7 @@ use native.Mathlib.Omega.{arith}
 use borrow.Author.Tests.{le-leb, lt-leb, eq-eqb, ne-eqb}
 use Rattle.rounding.specs.Nearest.{nearest}
 use Rattle.rounding.proofs.NearestLaws.{nearest-exact, nearest-cross}
-use Rattle.fractions.specs.Ratio.{Ratio, _over_, whole, _⊕_, _⊗_, _⊘_, inverse, Proper, _≈_}
+use Rattle.fractions.specs.Ratio.{Ratio, _over_, whole, _⊕_, _⊗_, _⊘_, inverse, _≈_}
 use Rattle.fractions.proofs.RatioLaws.{over-proper, whole-proper, whole-positive, ⊗-proper, inverse-proper}
 use Rattle.fractions.proofs.EqualLaws.{≈-refl, _∙≈_, ⊕-cong, ⊗-cong}
 use Rattle.annuity.specs.Basis.{weight}

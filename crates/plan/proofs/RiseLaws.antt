@@ -1,5 +1,5 @@
 -- The laws of `rises`.
-use mathlib.Core.Path.{_≡_, refl, ap, _∙_}
+use mathlib.Core.Path.{_≡_, refl, _∙_}
 use mathlib.Core.Bool.{true, false, _&&_}
 use Prim.Native.Nat.{ℕ, zero, suc, _+_, _-_, _≤_, _<_}
 use native.Mathlib.Omega.{arith}
@@ -31,4 +31,4 @@ unfolding rises
 rises-same F H zero k same = refl
 rises-same F H (suc n) k same =
     λ i. leb (same k (omega arith) (omega arith) i) (same (suc k) (omega arith) (omega arith) i)
-        && rises-same F H n (suc k) (λ j from to. same j (omega arith) (omega arith)) i
+    && rises-same F H n (suc k) (λ j from to. same j (omega arith) (omega arith)) i

@@ -1,13 +1,13 @@
 -- The laws of rules in order.
-use mathlib.Core.Path.{_≡_, refl, sym, ap, _∙_}
-use mathlib.Core.Bool.{Bool, true, false, cond}
-use mathlib.Core.List.{List, [], _∷_, _++_}
-use Prim.Native.Nat.{ℕ, zero, suc, _+_, _-_, _≤_, _<_}
+use mathlib.Core.Path.{_≡_, refl, sym, _∙_}
+use mathlib.Core.Bool.{cond}
+use mathlib.Core.List.{List, [], _∷_}
+use Prim.Native.Nat.{ℕ, zero, suc, _+_, _-_, _≤_}
 use native.Mathlib.Omega.{arith}
 use borrow.Author.Tests.{eq-eqb, ne-eqb, lt-ltb}
 use lib.Dec.{eqb}
 use Rattle.annuity.specs.Basis.{weight}
-use Rattle.plan.specs.Rules.{unless, firstOf}
+use Rattle.plan.specs.Rules.{firstOf}
 use Rattle.plan.specs.Acceptance.{rowRules, rowOf, weightBefore, rowsRefusal}
 
 -- one rule more, before the others

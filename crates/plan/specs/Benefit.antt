@@ -1,7 +1,7 @@
 -- Pay and benefit. Document 01, 'The figures'.
 use mathlib.Core.Bool.{cond}
 use mathlib.Core.List.{List}
-use Prim.Native.Nat.{ℕ, zero, suc, _+_, _-_, _*_, min}
+use Prim.Native.Nat.{ℕ, zero, suc, _-_, _*_, min}
 use lib.Dec.{leb, eqb}
 use Rattle.rounding.specs.Nearest.{nearest}
 use Rattle.fractions.specs.Ratio.{Ratio, _over_, whole, _⊕_, _⊗_, _⊘_}

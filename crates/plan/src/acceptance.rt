@@ -1,18 +1,30 @@
 // Accepting: the rules in the order of the lines. A refusal is its number, and 0 is none.
+use crate::Member;
+use crate::Plan;
 use crate::benefit::accrued_benefits;
-use crate::rules::{
-    assets_rule, average_rule, between, both, formula_rule, interest_rule, method_rule, or_else,
-    retire_rule, row_of, row_rule, unit_rule, unless, unless_between, years_rule,
-};
-use crate::{Member, Plan};
+use crate::rules::assets_rule;
+use crate::rules::average_rule;
+use crate::rules::between;
+use crate::rules::both;
+use crate::rules::formula_rule;
+use crate::rules::interest_rule;
+use crate::rules::method_rule;
+use crate::rules::or_else;
+use crate::rules::retire_rule;
+use crate::rules::row_of;
+use crate::rules::row_rule;
+use crate::rules::unit_rule;
+use crate::rules::unless;
+use crate::rules::unless_between;
+use crate::rules::years_rule;
 ghost use mathlib.Core.Path.{_≡_};
 ghost use mathlib.Core.Bool.{_&&_};
-ghost use Prim.Native.Nat.{_-_, _^_, _≤_, _<_};
+ghost use Prim.Native.Nat.{_-_, _≤_, _<_};
 ghost use lib.ListN.{getD};
 ghost use lib.Dec.{leb, ltb};
 ghost use Rattle.plan.specs.Rules.{firstOf};
 ghost use Rattle.plan.specs.Rules.{unless as Rules·unless, between as Rules·between};
-ghost use Rattle.plan.specs.Acceptance.{headRules, rowOf, rowsRefusal, planRefusal, fieldRules, memberRefusal, loneRefusal, Accrued, AcceptedMember, answer};
+ghost use Rattle.plan.specs.Acceptance.{headRules, rowsRefusal, planRefusal, fieldRules, memberRefusal, loneRefusal, Accrued, AcceptedMember, answer};
 ghost use Rattle.plan.specs.Acceptance.{rises as Acceptance·rises};
 
 // Lines 1 to 8.

@@ -1,6 +1,8 @@
 // Pay and benefit: B(k) for each age of a member, from exact pay, rounded once to the cent.
+use crate::Formula;
+use crate::Member;
+use crate::Plan;
 use crate::rules::wide;
-use crate::{Formula, Member, Plan};
 ghost use mathlib.Core.Path.{_≡_};
 ghost use Prim.Native.Nat.{_-_, _*_, _≤_, _<_, min};
 ghost use lib.ListN.{getD};

@@ -132,10 +132,7 @@ pub fn row_rule(k: usize, before: u64, row: Row) -> u64
     let weight = or_else(weight_rule(before, row.weight), 0);
     let last = or_else(last_age_rule(k, row.death), weight);
     let sum = or_else(sum_rule(row.death, row.withdrawal, row.disability), last);
-    or_else(
-        rates_rule(row.death, row.withdrawal, row.disability),
-        sum,
-    )
+    or_else(rates_rule(row.death, row.withdrawal, row.disability), sum)
 }
 
 fn rates_rule(death: u64, withdrawal: u64, disability: u64) -> u64

@@ -1,5 +1,5 @@
 -- What a rounded quotient that fits a word says of the number divided, for words of any size w.
-use Prim.Native.Nat.{ℕ, _+_, _*_, _≤_, _<_}
+use Prim.Native.Nat.{ℕ, _+_, _*_, _<_}
 use native.Mathlib.Nat.{mul-le-mul-right, lt-of-mul-lt-mul-right}
 use native.Mathlib.Omega.{arith}
 use Rattle.rounding.specs.Nearest.{nearest}

@@ -1,6 +1,6 @@
 -- An integer as the code has it, a sign beside a size.
-use mathlib.Core.Bool.{Bool, true, false, cond}
-use Prim.Native.Nat.{ℕ, suc}
+use mathlib.Core.Bool.{true, false, cond}
+use Prim.Native.Nat.{suc}
 use lib.IntN.{ℤ, pos, negsuc, negℤ}
 use Rattle.rounding.specs.declared.Signed.{Signed}
 

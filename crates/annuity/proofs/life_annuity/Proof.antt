@@ -1,6 +1,5 @@
 -- `annuity::life_annuity` meets its contract.
 use borrow.Author.Needs.{needs}
-use Prim.Native.Nat.{ℕ}
 use Rattle.annuity.specs.declared.Amount.the-variants.{One}
 use Rattle.annuity.specs.Basis.{basis}
 use Rattle.annuity.specs.Factors.{S, A}

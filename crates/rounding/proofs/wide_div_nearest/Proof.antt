@@ -1,5 +1,4 @@
 -- `rounding::wide_div_nearest` meets its contract.
-use borrow.Author.Needs.{needs}
 use Rattle.rounding.specs.Words.{value}
 use Rattle.rounding.proofs.wide_div_nearest.Statement.{statement}
 use Rattle.rounding.proofs.wide_div_nearest.Tie as tie

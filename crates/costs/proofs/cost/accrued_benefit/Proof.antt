@@ -1,6 +1,6 @@
 -- `costs::cost::accrued_benefit` meets its contract.
 use mathlib.Core.Path.{_∙_}
-use Prim.Native.Nat.{_+_, _-_, _*_, _≤_}
+use Prim.Native.Nat.{_+_, _-_, _*_}
 use native.Mathlib.Nat.{le-of-lt}
 use native.Mathlib.Omega.{arith}
 use Rattle.rounding.specs.Nearest.{nearest}
@@ -34,9 +34,10 @@ of-age-requires-3 c κs = let s = c .before .before in in-table (s .pre .0) (s .
 worth-requires : tie.Need-worth-requires
 worth-requires c κs =
     let s = c .before .before .before in
-    let k = s .args .k in
-    (omega (arith, c .before .before .of-age .ensures, benefit-small (s .pre .0) (k + 1) (omega (arith, s .pre .1)) (omega (arith, s .pre .2))),
-      rw (c .of-age3 .ensures) (deferred-small (s .pre .0) k (s .pre .1) (le-of-lt (s .pre .2))))
+    let k = s .args .k in (
+      omega (arith, c .before .before .of-age .ensures, benefit-small (s .pre .0) (k + 1) (omega (arith, s .pre .1)) (omega (arith, s .pre .2))),
+      rw (c .of-age3 .ensures) (deferred-small (s .pre .0) k (s .pre .1) (le-of-lt (s .pre .2))),
+    )
 
 returns : tie.Need-returns
 unfolding cost

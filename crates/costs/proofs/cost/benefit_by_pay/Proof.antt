@@ -26,9 +26,10 @@ weight-requires c κs = let s = c .before .before .before .before in in-table (s
 share-requires : tie.Need-share-requires
 share-requires c κs =
     let s = c .before .before .before .before .before in
-    let a = s .args in
-    (rw (c .before .before .weights-between .ensures) (weights-some (a .p) (a .rows .now) (a .m) (s .pre .0 .accepted)),
-      rw (c .weight .ensures, c .before .before .weights-between .ensures) (weight-among (a .p) (a .rows .now) (a .m) (s .pre .0 .accepted) (a .k) (s .pre .1) (s .pre .2)))
+    let a = s .args in (
+      rw (c .before .before .weights-between .ensures) (weights-some (a .p) (a .rows .now) (a .m) (s .pre .0 .accepted)),
+      rw (c .weight .ensures, c .before .before .weights-between .ensures) (weight-among (a .p) (a .rows .now) (a .m) (s .pre .0 .accepted) (a .k) (s .pre .1) (s .pre .2)),
+    )
 
 returns : tie.Need-returns
 unfolding cost

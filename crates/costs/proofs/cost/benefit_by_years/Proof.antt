@@ -1,6 +1,6 @@
 -- `costs::cost::benefit_by_years` meets its contract.
 use mathlib.Core.Path.{ap, _∙_}
-use Prim.Native.Nat.{ℕ, _-_, _*_}
+use Prim.Native.Nat.{ℕ, _-_}
 use Rattle.rounding.specs.Nearest.{nearest}
 use Rattle.costs.specs.Costs.{cost}
 use borrow.Author.Needs.{needs}

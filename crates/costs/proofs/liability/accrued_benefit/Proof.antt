@@ -16,9 +16,10 @@ of-age-requires-2 c κs = in-table (c .before .pre .0) (c .before .args .k) (c .
 
 worth-requires : tie.Need-worth-requires
 worth-requires c κs =
-    let s = c .before .before in
-    (rw (c .before .of-age .ensures) (benefit-small (s .pre .0) (s .args .k) (s .pre .1) (s .pre .2)),
-      rw (c .of-age2 .ensures) (deferred-small (s .pre .0) (s .args .k) (s .pre .1) (s .pre .2)))
+    let s = c .before .before in (
+      rw (c .before .of-age .ensures) (benefit-small (s .pre .0) (s .args .k) (s .pre .1) (s .pre .2)),
+      rw (c .of-age2 .ensures) (deferred-small (s .pre .0) (s .args .k) (s .pre .1) (s .pre .2)),
+    )
 
 returns : tie.Need-returns
 unfolding L

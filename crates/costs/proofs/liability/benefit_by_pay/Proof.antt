@@ -29,9 +29,10 @@ weights-between-requires-2 c κs =
 share-requires : tie.Need-share-requires
 share-requires c κs =
     let s = c .before .before .before .before .before in
-    let a = s .args in
-    (rw (c .weights-between2 .ensures) (weights-some (a .p) (a .rows .now) (a .m) (s .pre .0 .accepted)),
-      rw (c .before .before .weights-between .ensures, c .weights-between2 .ensures) (past-among (a .p) (a .rows .now) (a .m) (s .pre .0 .accepted) (a .k) (s .pre .1) (s .pre .2)))
+    let a = s .args in (
+      rw (c .weights-between2 .ensures) (weights-some (a .p) (a .rows .now) (a .m) (s .pre .0 .accepted)),
+      rw (c .before .before .weights-between .ensures, c .weights-between2 .ensures) (past-among (a .p) (a .rows .now) (a .m) (s .pre .0 .accepted) (a .k) (s .pre .1) (s .pre .2)),
+    )
 
 returns : tie.Need-returns
 unfolding L

@@ -24,9 +24,10 @@ pay-from-entry-requires-2 c κs = search needs
 share-requires : tie.Need-share-requires
 share-requires c κs =
     let s = c .before .before .before in
-    let a = s .args in
-    (rw (c .pay-from-entry2 .ensures) (omega (arith, Z-least (planBasis (a .p) (a .rows .now)) (a .m .entry) (a .p .retire) (s .pre .0 .accepted .placed .enters), facts (a .p) (a .rows .now) (a .m) (s .pre .0 .accepted) .least (a .m .entry) (s .pre .0 .accepted .placed .grown) (omega (arith, in-table (s .pre .0) (a .k) (s .pre .1) (s .pre .2) .1, s .pre .1)))),
-      rw (c .before .pay-from-entry .ensures, c .pay-from-entry2 .ensures) (Z-longer (planBasis (a .p) (a .rows .now)) (basis-fair (a .rows .now) (a .p .retire) (a .p .interest)) (a .m .entry) (a .k) (a .p .retire) (s .pre .1) (s .pre .2)))
+    let a = s .args in (
+      rw (c .pay-from-entry2 .ensures) (omega (arith, Z-least (planBasis (a .p) (a .rows .now)) (a .m .entry) (a .p .retire) (s .pre .0 .accepted .placed .enters), facts (a .p) (a .rows .now) (a .m) (s .pre .0 .accepted) .least (a .m .entry) (s .pre .0 .accepted .placed .grown) (omega (arith, in-table (s .pre .0) (a .k) (s .pre .1) (s .pre .2) .1, s .pre .1)))),
+      rw (c .before .pay-from-entry .ensures, c .pay-from-entry2 .ensures) (Z-longer (planBasis (a .p) (a .rows .now)) (basis-fair (a .rows .now) (a .p .retire) (a .p .interest)) (a .m .entry) (a .k) (a .p .retire) (s .pre .1) (s .pre .2)),
+    )
 
 returns : tie.Need-returns
 unfolding L

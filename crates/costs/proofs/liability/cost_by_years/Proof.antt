@@ -23,9 +23,10 @@ working-from-entry-requires-2 c κs = search needs
 share-requires : tie.Need-share-requires
 share-requires c κs =
     let s = c .before .before .before in
-    let a = s .args in
-    (rw (c .working-from-entry2 .ensures) (omega (arith, T-least (planBasis (a .p) (a .rows .now)) (a .m .entry) (a .p .retire) (s .pre .0 .accepted .placed .enters))),
-      rw (c .before .working-from-entry .ensures, c .working-from-entry2 .ensures) (T-longer (planBasis (a .p) (a .rows .now)) (basis-fair (a .rows .now) (a .p .retire) (a .p .interest)) (a .m .entry) (a .k) (a .p .retire) (s .pre .1) (s .pre .2)))
+    let a = s .args in (
+      rw (c .working-from-entry2 .ensures) (omega (arith, T-least (planBasis (a .p) (a .rows .now)) (a .m .entry) (a .p .retire) (s .pre .0 .accepted .placed .enters))),
+      rw (c .before .working-from-entry .ensures, c .working-from-entry2 .ensures) (T-longer (planBasis (a .p) (a .rows .now)) (basis-fair (a .rows .now) (a .p .retire) (a .p .interest)) (a .m .entry) (a .k) (a .p .retire) (s .pre .1) (s .pre .2)),
+    )
 
 returns : tie.Need-returns
 unfolding L

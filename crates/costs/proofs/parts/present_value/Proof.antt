@@ -18,9 +18,10 @@ of-age-requires-2 c κs = in-table (c .before .pre .0) (c .before .args .k) (c .
 worth-requires : tie.Need-worth-requires
 worth-requires c κs =
     let s = c .before .before in
-    let a = s .args in
-    (rw (c .before .of-age .ensures) (benefit-small (s .pre .0) (a .p .retire) (entered (a .p) (a .rows .now) (a .m) (s .pre .0 .accepted)) (le-refl (a .p .retire))),
-      rw (c .of-age2 .ensures) (deferred-small (s .pre .0) (a .k) (s .pre .1) (s .pre .2)))
+    let a = s .args in (
+      rw (c .before .of-age .ensures) (benefit-small (s .pre .0) (a .p .retire) (entered (a .p) (a .rows .now) (a .m) (s .pre .0 .accepted)) (le-refl (a .p .retire))),
+      rw (c .of-age2 .ensures) (deferred-small (s .pre .0) (a .k) (s .pre .1) (s .pre .2)),
+    )
 
 returns : tie.Need-returns
 unfolding PV

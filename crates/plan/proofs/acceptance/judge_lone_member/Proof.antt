@@ -26,10 +26,11 @@ unfolding loneRefusal
 returns-2 c =
     let a = c .before .before .before .args in
     let kept = sym (c .before .before .plan-refusal .ensures) ∙ c .before .if1 .left in
-    let e = c .judge-member .ensures in
-    (e .0 ∙ sym (first-passes (planRefusal (a .p) (a .rows)) (memberRefusal (a .p) (a .rows) 0 (a .m) ∷ []) kept ∙ first-alone (memberRefusal (a .p) (a .rows) 0 (a .m))),
+    let e = c .judge-member .ensures in (
+      e .0 ∙ sym (first-passes (planRefusal (a .p) (a .rows)) (memberRefusal (a .p) (a .rows) 0 (a .m) ∷ []) kept ∙ first-alone (memberRefusal (a .p) (a .rows) 0 (a .m))),
       (λ z. member-facts (a .p) (a .rows) 0 (a .m) kept (sym (e .0) ∙ z)),
-      e .1)
+      e .1,
+    )
 
 pub judge-lone-member-spec : {M : Type 1} → statement M
 judge-lone-member-spec =

@@ -1,13 +1,13 @@
 -- `plan::acceptance::judge_member` meets its contract.
 use mathlib.Core.Path.{_≡_, refl, sym, ap, _∙_}
 use mathlib.Core.Bool.{Bool}
-use Prim.Native.Nat.{ℕ, _-_, _≤_}
+use Prim.Native.Nat.{ℕ, _-_}
 use native.Mathlib.Omega.{arith}
 use lib.ListN.{getD}
 use lib.Dec.{leb}
-use Rattle.plan.specs.Rules.{unless, firstOf}
+use Rattle.plan.specs.Rules.{unless}
 use Rattle.plan.specs.Benefit.{B}
-use Rattle.plan.specs.Acceptance.{fieldRules, benefitRules, Placed, rises}
+use Rattle.plan.specs.Acceptance.{benefitRules, Placed, rises}
 use Rattle.plan.proofs.RuleLaws.{in-order}
 use Rattle.plan.proofs.RiseLaws.{rises-same}
 use Rattle.plan.proofs.Facts.{plan-facts, placed-facts, fields-refused, fields-kept}
@@ -71,10 +71,12 @@ returns-2 c =
     let accrued = c .before .before .before .before .before .accrued-benefits .ensures in
     let at = placed (c .before .before .before .before .before .before .before) (c .before .before .before .before .before .before .if1 .left) in
     let top = accrued .each (a .p .retire) (omega (arith, at .enters)) (omega arith) in
-    let rise = c .before .before .before .before .rises .ensures ∙ rises-same (λ (k : ℕ). getD (c .before .before .before .before .before .accrued-benefits .result) (k - 15) 0) (B (a .p) (a .rows) (a .m)) (a .p .retire - a .m .entry) (a .m .entry) (λ j from to. accrued .each j from (omega (arith, at .enters))) in
-    (in-order (c .or-else2 .ensures) (c .before .unless2 .ensures ∙ ap (λ (x : ℕ). unless (leb x 100000000) 25) top)
-      (in-order (c .before .before .or-else .ensures) (c .before .before .before .unless .ensures ∙ ap (λ (kept : Bool). unless kept 26) rise) refl)
-      ∙ sym (fields-kept (a .p) (a .rows) (a .before) (a .m) (sym (c .before .before .before .before .before .before .before .fields-refusal .ensures) ∙ c .before .before .before .before .before .before .if1 .left)), λ z. accrued)
+    let rise = c .before .before .before .before .rises .ensures ∙ rises-same (λ (k : ℕ). getD (c .before .before .before .before .before .accrued-benefits .result) (k - 15) 0) (B (a .p) (a .rows) (a .m)) (a .p .retire - a .m .entry) (a .m .entry) (λ j from to. accrued .each j from (omega (arith, at .enters))) in (
+      in-order (c .or-else2 .ensures) (c .before .unless2 .ensures ∙ ap (λ (x : ℕ). unless (leb x 100000000) 25) top)
+          (in-order (c .before .before .or-else .ensures) (c .before .before .before .unless .ensures ∙ ap (λ (kept : Bool). unless kept 26) rise) refl)
+          ∙ sym (fields-kept (a .p) (a .rows) (a .before) (a .m) (sym (c .before .before .before .before .before .before .before .fields-refusal .ensures) ∙ c .before .before .before .before .before .before .if1 .left)),
+      λ z. accrued,
+    )
 
 pub judge-member-spec : {M : Type 1} → statement M
 judge-member-spec =

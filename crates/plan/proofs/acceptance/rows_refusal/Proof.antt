@@ -1,7 +1,7 @@
 -- `plan::acceptance::rows_refusal` meets its contract.
 use borrow.Author.Needs.{needs}
 use mathlib.Core.Path.{_≡_, refl, sym, ap, _∙_}
-use Prim.Native.Nat.{_+_, _-_, _≤_}
+use Prim.Native.Nat.{_-_, _≤_}
 use native.Mathlib.Omega.{arith}
 use Rattle.plan.specs.declared.rules.Row.{Row}
 use Rattle.plan.specs.Rules.{firstOf}

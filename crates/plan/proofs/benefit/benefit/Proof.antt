@@ -73,12 +73,13 @@ career-requires c κs =
     let years = years-most (a .p) (a .rows .now) (s .pre .0) (a .m) (s .pre .1) (a .k) (s .pre .4) in
     let high : a .k ≤ 120 = omega (arith, s .pre .4, plan-facts (a .p) (a .rows .now) (s .pre .0) .head .retire .1) in
     let most = sums-most (a .rows .now) (plan-facts (a .p) (a .rows .now) (s .pre .0) .table) (a .sums .now) (s .pre .2) (a .m .entry) (a .k) (s .pre .1 .grown) (s .pre .3) high in
-    let scale = c .before .before .before .before .wide .ensures .0 in
-    (plan-facts (a .p) (a .rows .now) (s .pre .0) .head .pay-unit (not-flat (a .p .formula) (sym (c .before .before .before .formula-of .ensures) ∙ c .before .enum-told2 .given .1) flat-career),
+    let scale = c .before .before .before .before .wide .ensures .0 in (
+      plan-facts (a .p) (a .rows .now) (s .pre .0) .head .pay-unit (not-flat (a .p .formula) (sym (c .before .before .before .formula-of .ensures) ∙ c .before .enum-told2 .given .1) flat-career),
       s .pre .1 .paid,
       omega (arith, c .weights .ensures, sums-differ (a .rows .now) (plan-facts (a .p) (a .rows .now) (s .pre .0) .table) (a .sums .now) (s .pre .2) (a .m .entry) (a .k) (s .pre .1 .grown) (s .pre .3) high),
       rw scale (now-some (a .p) (a .rows .now) (s .pre .0) (a .m) (s .pre .1)),
-      rw scale (now-most (a .p) (a .rows .now) (s .pre .0) (a .m) (s .pre .1)))
+      rw scale (now-most (a .p) (a .rows .now) (s .pre .0) (a .m) (s .pre .1)),
+    )
 
 enum-told-3 : tie.Need-enum-told-3
 enum-told-3 c = search needs
@@ -112,15 +113,16 @@ final-average-requires c κs =
     let years : a .k - (a .k - n .result) ≡ n .result = omega (arith, n .ensures, n-is .most-years) in
     let most = rw years at (sums-most (a .rows .now) (plan-facts (a .p) (a .rows .now) (s .pre .0) .table) (a .sums .now) (s .pre .2) (a .k - n .result) (a .k) low (omega arith) high) in
     let total = c .weights2 .ensures ∙ sums-differ (a .rows .now) (plan-facts (a .p) (a .rows .now) (s .pre .0) .table) (a .sums .now) (s .pre .2) (a .k - n .result) (a .k) low (omega arith) high in
-    let scale = c .before .before .before .before .before .wide .ensures .0 in
-    (facts .pay-unit (not-flat (a .p .formula) e flat-final),
+    let scale = c .before .before .before .before .before .wide .ensures .0 in (
+      facts .pay-unit (not-flat (a .p .formula) e flat-final),
       years-most (a .p) (a .rows .now) (s .pre .0) (a .m) (s .pre .1) (a .k) (s .pre .4),
       s .pre .1 .paid,
       omega (arith, total, ap (summed (weight (a .rows .now)) (a .k - n .result)) years, most, n .ensures, n-is .most),
       rw (n .ensures) (n-is .some),
       rw (n .ensures) (n-is .most),
       rw scale (now-some (a .p) (a .rows .now) (s .pre .0) (a .m) (s .pre .1)),
-      rw scale (now-most (a .p) (a .rows .now) (s .pre .0) (a .m) (s .pre .1)))
+      rw scale (now-most (a .p) (a .rows .now) (s .pre .0) (a .m) (s .pre .1)),
+    )
 
 returns-2 : tie.Need-returns-2
 returns-2 c =

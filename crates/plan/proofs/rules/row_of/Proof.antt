@@ -1,5 +1,4 @@
 -- `plan::rules::row_of` meets its contract.
-use mathlib.Core.Path.{_≡_}
 use borrow.Author.Needs.{needs}
 use Rattle.plan.proofs.rules.row_of.Statement.{statement}
 use Rattle.plan.proofs.rules.row_of.Tie as tie

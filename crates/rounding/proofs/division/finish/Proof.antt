@@ -1,7 +1,5 @@
 -- `rounding::division::finish` meets its contract.
-use borrow.Author.Needs.{needs}
 use mathlib.Core.Path.{_≡_, refl, sym, _∙_}
-use Prim.Native.Nat.{_+_, _*_}
 use native.Mathlib.Omega.{arith}
 use Rattle.rounding.specs.Words.{value}
 use Rattle.rounding.specs.Division.{whole}

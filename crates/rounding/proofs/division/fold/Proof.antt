@@ -1,7 +1,7 @@
 -- `rounding::division::fold` meets its contract.
 use borrow.Author.Needs.{needs}
 use native.Mathlib.Omega.{arith}
-use Prim.Native.Nat.{_+_, _*_, _^_}
+use Prim.Native.Nat.{_+_, _*_}
 use Rattle.rounding.proofs.Reciprocals.{quotient-fits}
 use Rattle.rounding.proofs.division.fold.Statement.{statement}
 use Rattle.rounding.proofs.division.fold.Tie as tie

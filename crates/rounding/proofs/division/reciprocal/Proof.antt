@@ -1,7 +1,6 @@
 -- `rounding::division::reciprocal` meets its contract.
 use borrow.Author.Needs.{needs}
 use native.Mathlib.Omega.{arith}
-use Prim.Native.Nat.{_^_}
 use native.Mathlib.Nat.{div-add-mod', mod-lt}
 use Rattle.rounding.proofs.division.reciprocal.Statement.{statement}
 use Rattle.rounding.proofs.division.reciprocal.Tie as tie
