@@ -1,6 +1,6 @@
--- A table that stands as one list of numbers, four for each age, and what a row has to be.
+-- A table that stands as one list of numbers, four for each age.
 use mathlib.Core.List.{List, [], _∷_}
-use Prim.Native.Nat.{ℕ, zero, suc, _+_, _≤_}
+use Prim.Native.Nat.{ℕ, zero, suc, _+_}
 use lib.ListN.{getD}
 
 -- the four numbers from a place on
@@ -14,8 +14,3 @@ rowsFrom numbers at (suc n) = rowAt numbers at ∷ rowsFrom numbers (at + 4) n
 
 unfoldable pub rowsOf : List ℕ → List (List ℕ)
 rowsOf numbers = rowsFrom numbers 0 106
-
--- a row whose rates sum to a million at most and whose weight is not above 100000
-pub record Sound (row : List ℕ) : Type 0 where
-  pub rates : getD row 0 0 + getD row 1 0 + getD row 2 0 ≤ 1000000
-  pub weight : getD row 3 0 ≤ 100000

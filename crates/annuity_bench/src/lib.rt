@@ -6,10 +6,10 @@ ghost use mathlib.Core.Bool.{true};
 ghost use mathlib.Core.Path.{_≡_};
 ghost use Prim.Native.Nat.{_+_, _^_, _≤_, _<_};
 ghost use lib.ListN.{length};
-ghost use Rattle.annuity.specs.Basis.{Table, basis};
+ghost use Rattle.annuity.specs.Basis.{Sound, Table, basis};
 ghost use Rattle.annuity.specs.Factors.{A as Factors·A, Z};
 ghost use Rattle.annuity.specs.Filled.{Filled};
-ghost use Rattle.annuity_bench.specs.Rows.{rowAt, rowsOf, Sound};
+ghost use Rattle.annuity_bench.specs.Rows.{rowAt, rowsOf};
 
 // A(k) for each age.
 #[no_mangle]

@@ -7,7 +7,7 @@ use mathlib.Core.List.{[]}
 use Prim.Native.Nat.{ℕ, _-_, _≤_, _<_}
 use native.Mathlib.Omega.{arith}
 use lib.ListN.{getD}
-use Rattle.annuity_bench.specs.Rows.{Sound}
+use Rattle.annuity.specs.Basis.{Sound}
 use Rattle.annuity_bench.proofs.RowLaws.{sound-table}
 use Rattle.annuity_bench.proofs.is_table.Statement.{statement}
 use Rattle.annuity_bench.proofs.is_table.Tie as tie
