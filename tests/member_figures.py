@@ -45,7 +45,7 @@ class Case(NamedTuple):
     def line(self):
         """The line that the program must write."""
         number = refusal(*self)
-        return f'refused={number}' if number else 'figures=' + ','.join(map(str, self.figures()))
+        return f'refused={number},0' if number else 'figures=' + ','.join(map(str, self.figures()))
 
 
 # ---- the cases that document 01 works by hand
@@ -375,7 +375,7 @@ def check():
         if said != case.line():
             differ(case, f'the oracle gives {case.line()}', f'the program {said}')
         if said.startswith('refused='):
-            refused[int(said.removeprefix('refused='))] += 1
+            refused[int(said.removeprefix('refused=').split(',')[0])] += 1
         else:
             check_exact(case, farthest)
     if set(refused) != REFUSALS:

@@ -23,11 +23,15 @@ module _ (b : Basis) (fair : Fair b) where
   pub A-halves : (k : ℕ) → k ≤ 120 → Halves (121 - k) (A b k) (A* b k)
   A-halves k h = part-halves S (121 - k) (omega arith) (A*-most b fair k h) (A-part k)
 
+  pub pension-halves : b .r ≤ 120 → Halves (121 - b .r) (pension b) (pension* b)
+  unfolding pension pension*
+  pension-halves h = A-halves (b .r) h
+
   pub G-halves : (k : ℕ) → b .r ≤ 120 → k ≤ b .r → Halves (121 - k) (G b k) (G* b k)
-  unfolding G G* pension pension*
+  unfolding G G*
   G-halves k hr h =
       halves-more (121 - k) (omega arith)
-      (deferred-halves b fair (121 - b .r) (A b (b .r)) (A* b (b .r)) k (b .r - k) (A-halves (b .r) hr))
+      (deferred-halves b fair (121 - b .r) (pension b) (pension* b) k (b .r - k) (pension-halves hr))
 
   pub T-part : (k e : ℕ) → Part S (T b k e) (T* b k e)
   unfolding T T*

@@ -82,9 +82,9 @@ pub life-is : (b : Basis) (k : ℕ) → factor b One 120 S k ≡ A b k
 unfolding factor amountOf A
 life-is b k = refl
 
-pub deferred-is : (b : Basis) (k : ℕ) → factor b Nothing (b .r) (A b (b .r)) k ≡ G b k
-unfolding factor amountOf G pension
-deferred-is b k = carried-cong _ _ (A b (b .r)) (λ j f. zero-add (step b j f)) k (b .r - k)
+pub deferred-is : (b : Basis) (k : ℕ) → factor b Nothing (b .r) (pension b) k ≡ G b k
+unfolding factor amountOf G
+deferred-is b k = carried-cong _ _ (pension b) (λ j f. zero-add (step b j f)) k (b .r - k)
 
 pub working-is : (b : Basis) (e k : ℕ) → factor b One e 0 k ≡ T b k e
 unfolding factor amountOf T

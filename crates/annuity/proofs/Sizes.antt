@@ -101,13 +101,21 @@ module _ (b : Basis) where
         annuity*-most b fair (λ j. S) S (whole S) 1 k (120 - k) (whole-≼ (omega arith)) (λ j from to. le-refl S)
         ∙≼ whole-≼ (omega arith)
 
+    pub pension-most : b .r ≤ 120 → pension b ≤ (121 - b .r) * S
+    unfolding pension
+    pension-most h = A-most (b .r) h
+
+    pub pension*-most : b .r ≤ 120 → pension* b ≼ whole ((121 - b .r) * S)
+    unfolding pension*
+    pension*-most h = A*-most (b .r) h
+
     pub G-most : (k : ℕ) → b .r ≤ 120 → G b k ≤ (121 - b .r) * S
-    unfolding G pension
-    G-most k h = omega (arith, deferred-most b fair (A b (b .r)) k (b .r - k), A-most (b .r) h)
+    unfolding G
+    G-most k h = omega (arith, deferred-most b fair (pension b) k (b .r - k), pension-most h)
 
     pub G*-most : (k : ℕ) → b .r ≤ 120 → G* b k ≼ whole ((121 - b .r) * S)
-    unfolding G* pension*
-    G*-most k h = deferred*-most b fair (A* b (b .r)) k (b .r - k) (A*-proper (b .r)) ∙≼ A*-most (b .r) h
+    unfolding G*
+    G*-most k h = deferred*-most b fair (pension* b) k (b .r - k) pension*-proper ∙≼ pension*-most h
 
     pub T-most : (k e : ℕ) → T b k e ≤ (e - k) * S
     unfolding T

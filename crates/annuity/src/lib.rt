@@ -9,7 +9,7 @@ ghost use lib.ListN.{getD};
 ghost use Rattle.rounding.specs.Nearest.{nearest};
 ghost use Rattle.annuity.specs.Basis.{Sound, Table, basis, stays};
 ghost use Rattle.annuity.specs.Basis.{weight as Basis·weight};
-ghost use Rattle.annuity.specs.Factors.{A as Factors·A, G, T, Z, C};
+ghost use Rattle.annuity.specs.Factors.{A as Factors·A, pension as Factors·pension, G, T, Z, C};
 ghost use Rattle.annuity.specs.Factors.{S as Factors·S};
 ghost use Rattle.annuity.specs.Filled.{Filled, amountOf, factor};
 
@@ -102,13 +102,22 @@ pub fn life_annuity(rows: [[u32; 4]; 106], r: usize, i: u64) -> [u64; 106]
     fill(rows, r, i, Amount::One, 120, S)
 }
 
+// The annuity that a pension is worth at retirement: A(r).
+fn pension(rows: [[u32; 4]; 106], r: usize, i: u64) -> u64
+    requires { ⌜ Table rows × (i ≤ 2000) × (15 ≤ r) × (r ≤ 120) ⌝ }
+    ensures { λ p. ⌜ p ≡ Factors·pension (basis rows r i) ⌝ }
+{
+    let life = life_annuity(rows, r, i);
+    life[r - 15]
+}
+
 // G(k) for each age up to r.
 pub fn deferred_annuity(rows: [[u32; 4]; 106], r: usize, i: u64) -> [u64; 106]
     requires { ⌜ Table rows × (i ≤ 2000) × (15 ≤ r) × (r ≤ 120) ⌝ }
     ensures { λ a. ⌜ Filled (G (basis rows r i)) r 15 a ⌝ }
 {
-    let life = life_annuity(rows, r, i);
-    fill(rows, r, i, Amount::Nothing, r, life[r - 15])
+    let start = pension(rows, r, i);
+    fill(rows, r, i, Amount::Nothing, r, start)
 }
 
 // T(k,e) for each age up to e.

@@ -1,4 +1,4 @@
--- The answer of `value_member`: what it is, and that its N and L keep the limits.
+-- The answer of `value_member`: what it is, and that its N and L keep the limits; and demand 3 of every accepted member.
 use mathlib.Core.Path.{_≡_, sym, subst, _∙_}
 use mathlib.Core.List.{List}
 use Prim.Native.Nat.{ℕ}
@@ -6,14 +6,16 @@ use borrow.Author.Tests.{eq-eqb, ne-eqb}
 use Rattle.plan.specs.declared.Plan.{Plan}
 use Rattle.plan.specs.declared.Member.{Member}
 use Rattle.plan.specs.Acceptance.{loneRefusal, AcceptedMember}
+use Rattle.plan.proofs.Facts.{member-facts}
 use Rattle.costs.specs.declared.Figures.{Figures}
 use Rattle.costs.specs.declared.Valuation.the-variants.{Valued, Refused}
-use Rattle.costs.specs.Valuation.{methodOf, caseOf, figuresAt, figures, valuation, Limited}
+use Rattle.costs.specs.Valuation.{methodOf, caseOf, figuresAt, figures, valuation, Limited, Demand-3-Forms, Demand-3-Limits}
+use Rattle.costs.proofs.EqualForms.{equal-forms}
 use Rattle.costs.proofs.Limits.{limits}
 use Rattle.costs.proofs.Needs.{sound}
 
 module _ (p : Plan) (rows : List (List ℕ)) (m : Member) where
-  pub refused : {number : ℕ} → number ≡ loneRefusal p rows m → (number ≡ 0 → ⊥) → Refused number ≡ valuation p rows m
+  pub refused : {number : ℕ} → number ≡ loneRefusal p rows m → (number ≡ 0 → ⊥) → Refused number 0 ≡ valuation p rows m
   unfolding valuation
   refused e some = rw e (simp (ne-eqb (loneRefusal p rows m) 0 (λ z. some (e ∙ z))))
 
@@ -28,3 +30,10 @@ module _ (p : Plan) (rows : List (List ℕ)) (m : Member) where
 
   pub limited : {f : Figures} → AcceptedMember p rows m → f ≡ figures p rows m → Limited p rows m (Valued f)
   limited accepted e = subst (λ (f : Figures). Limited p rows m (Valued f)) (sym e) (own-figures accepted)
+
+-- ---- demand 3, of every accepted member
+pub demand-3-forms : Demand-3-Forms
+demand-3-forms p rows before m ok = equal-forms (caseOf p rows m) (sound p rows m (member-facts p rows before m (ok .plan) (ok .member)))
+
+pub demand-3-limits : Demand-3-Limits
+demand-3-limits p rows before m ok = limits (caseOf p rows m) (sound p rows m (member-facts p rows before m (ok .plan) (ok .member)))

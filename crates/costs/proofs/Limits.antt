@@ -18,6 +18,7 @@ use Rattle.plan.specs.declared.Method.{Method}
 use Rattle.plan.specs.declared.Method.the-variants.{AB, BD, BP, CD, CP}
 use Rattle.costs.specs.Case.{Case, Sound}
 use Rattle.plan.specs.Weights.{summed}
+use Rattle.plan.proofs.WeightLaws.{summed-split}
 use Rattle.costs.specs.Costs.{r, W, M, PV, PV*, cost, cost*, N, N*, L, L*}
 use Rattle.costs.specs.Demand3.{N-limit, L-limit, Sharp-Limits, N-most, Limits}
 use Rattle.costs.proofs.Quotients.{close-refl, Divisor, Share, exact, exact-part, over-divisor, near-part, Factor, strays, product}
@@ -70,14 +71,6 @@ climb F k zero rises = rw add-zero (le-refl (F k))
 climb F k (suc n) rises =
     let next : k + suc n ≡ k + n + 1 = omega arith in
     rw next (omega (arith, climb F k n (λ j from to. rises j from (omega arith)), rises (k + n) (omega arith) (omega arith)))
-
-summed-split : (W : ℕ → ℕ) (k m n : ℕ) → summed W k (m + n) ≡ summed W k m + summed W (k + m) n
-unfolding summed
-summed-split W k zero n = simp (zero-add, add-zero)
-summed-split W k (suc m) n =
-    let n-is : suc m + n ≡ suc (m + n) = omega arith in
-    let k-is : k + suc m ≡ suc k + m = omega arith in
-    rw (n-is, k-is) (omega (arith, summed-split W (suc k) m n))
 
 module _ (c : Case) (sound : Sound c) where
   open Case c using (basis, B, y)

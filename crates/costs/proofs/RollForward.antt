@@ -1,7 +1,7 @@
 -- Demand 3, roll-forward: by each method the liability with the year's normal cost is the year step of the next year's liability; and at r the liability is the present value.
 -- One shape serves the five methods: L is share × worth and N is gain × worth; in a year the share grows by the gain, and the worth is carried by the year step.
 -- Nothing divides by staying, which may be 0.
-use mathlib.Core.Path.{_≡_, refl}
+use mathlib.Core.Path.{_≡_, refl, sym}
 use mathlib.Core.Bool.{Bool, true, false, cond}
 use Prim.Native.Nat.{ℕ, zero, suc, _+_, _-_, _*_, _≤_, _<_}
 use native.Mathlib.Omega.{arith}
@@ -17,6 +17,7 @@ use Rattle.plan.specs.declared.Method.{Method}
 use Rattle.plan.specs.declared.Method.the-variants.{AB, BD, BP, CD, CP}
 use Rattle.costs.specs.Case.{Case, Sound}
 use Rattle.plan.specs.Weights.{summed}
+use Rattle.plan.proofs.WeightLaws.{summed-more}
 use Rattle.costs.specs.Costs.{r, W, M, PV*, cost*, N*, L*}
 use Rattle.costs.specs.Demand3.{Roll-Forward}
 
@@ -25,12 +26,6 @@ aside f s z = simp AC
 
 whole-grow : (a b : ℕ) {t : ℕ} → a + b ≡ t → whole a ⊕ whole b ≈ whole t
 whole-grow a b {t} e = rw (whole-⊕, e) (≈-refl (whole-proper t))
-
-summed-more : (w : ℕ → ℕ) (k n : ℕ) → summed w k n + w (k + n) ≡ summed w k (suc n)
-unfolding summed
-summed-more w k zero = let k-is : k + zero ≡ k = omega arith in rw k-is (omega arith)
-summed-more w k (suc n) =
-    let k-is : k + suc n ≡ suc k + n = omega arith in rw k-is (omega (arith, summed-more w (suc k) n))
 
 cond-yes : (b : Bool) (x y : Ratio) → Yes b → cond b x y ≡ x
 cond-yes true x y h = refl
@@ -159,9 +154,9 @@ module _ (c : Case) where
     grow AB k a b = whole-grow _ _ (omega (arith, rises k a b))
     grow BD k a b = whole-grow _ _ (omega arith)
     grow BP k a b =
-        let years : k + 1 - y ≡ suc (k - y) = omega arith in
+        let years : k + 1 - y ≡ k - y + 1 = omega arith in
         let k-is : y + (k - y) ≡ k = omega arith in
-        whole-grow _ _ (rw years (rw k-is at (summed-more (W c) y (k - y))))
+        whole-grow _ _ (rw years (rw k-is at (sym (summed-more (W c) y (k - y)))))
     grow CD k a b = ≈-sym (T*-chain basis y k a)
     grow CP k a b = ≈-sym (Z*-chain basis y k a)
 

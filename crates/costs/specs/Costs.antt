@@ -1,5 +1,5 @@
 -- Present value, normal cost and liability by the five cost methods, each rounded and exact, side by side. Document 01, 'The figures', with the textbook's equation numbers.
--- All are in cents. "At another age k of the member, k stands for x in these equations."
+-- All are in cents. "At another age k of the member, k stands for x in these equations; pay still starts from the member's own x."
 use mathlib.Core.Bool.{cond}
 use Prim.Native.Nat.{ℕ, zero, suc, _+_, _-_, _*_}
 use lib.Dec.{ltb}
@@ -24,14 +24,14 @@ module _ (c : Case) where
   abbrev pub M : ℕ
   M = summed W y (r - y)
 
-  -- "Present value V(k) = B(r) × G(k) / S, rounded to the cent."
+  -- "Present value V(k) = B(r) × G(k) / S, rounded to the cent." (5.4a)
   unfoldable pub PV : ℕ → ℕ
   PV k = nearest (B r * G basis k) S
 
   unfoldable pub PV* : ℕ → Ratio
   PV* k = whole (B r) ⊗ G* basis k ⊘ whole S
 
-  -- N below r: AB (5.8), BD (6.10), BP (6.11), CD and CP (6.14), (6.15)
+  -- N below r: AB (6.7a), BD (6.10), BP (6.11), CD (6.14b), CP (6.15)
   unfoldable pub cost : Method → ℕ → ℕ
   cost AB k = nearest ((B (k + 1) - B k) * G basis k) S
   cost BD k = nearest (PV k) (r - y)
@@ -53,7 +53,7 @@ module _ (c : Case) where
   unfoldable pub N* : Method → ℕ → Ratio
   N* m k = cond (ltb k r) (cost* m k) (whole 0)
 
-  -- the liability L: AB (5.9), BD and BP (6.10), (6.11), CD and CP (6.14), (6.15)
+  -- the liability L, the part already earned: AB (5.5), BD (5.6), BP (5.7), CD (5.8), CP (5.9)
   unfoldable pub L : Method → ℕ → ℕ
   L AB k = nearest (B k * G basis k) S
   L BD k = nearest (PV k * (k - y)) (r - y)

@@ -1,9 +1,11 @@
 -- The figures of a plan and a member handed in as plain values, and the answer of `value_member`.
+use mathlib.Core.Path.{_≡_}
 use mathlib.Core.Bool.{cond}
 use mathlib.Core.List.{List}
-use Prim.Native.Nat.{ℕ}
+use Prim.Native.Nat.{ℕ, _≤_}
 use lib.Dec.{eqb}
 use Rattle.fractions.specs.Ratio.{_over_}
+use Rattle.fractions.specs.Fraction.{fraction, _⊖_, _≐_}
 use Rattle.annuity.specs.Basis.{Basis, basis}
 use Rattle.annuity.specs.Factors.{G}
 use Rattle.annuity.specs.Filled.{Filled}
@@ -13,12 +15,12 @@ use Rattle.plan.specs.declared.Member.{Member}
 use Rattle.plan.specs.declared.Method.{Method}
 use Rattle.plan.specs.declared.Method.the-variants.{AB, BD, BP, CD, CP}
 use Rattle.plan.specs.Benefit.{B}
-use Rattle.plan.specs.Acceptance.{loneRefusal, Accrued, AcceptedMember}
+use Rattle.plan.specs.Acceptance.{planRefusal, memberRefusal, loneRefusal, Accrued, AcceptedMember}
 use Rattle.costs.specs.declared.Figures.{Figures}
 use Rattle.costs.specs.declared.Valuation.{Valuation}
 use Rattle.costs.specs.declared.Valuation.the-variants.{Valued, Refused}
 use Rattle.costs.specs.Case.{Case}
-use Rattle.costs.specs.Costs.{PV, N, N*, L, L*}
+use Rattle.costs.specs.Costs.{PV, PV*, N, N*, L, L*, future}
 use Rattle.costs.specs.Demand3.{N-most}
 
 -- a method's code: 1 AB, 2 BD, 3 BP, 4 CD, 5 CP
@@ -45,17 +47,38 @@ module _ (p : Plan) (rows : List (List ℕ)) (m : Member) where
 
   -- the figures, or the refusal with line 0
   unfoldable pub valuation : Valuation
-  valuation = let number = loneRefusal p rows m in cond (eqb number 0) (Valued figures) (Refused number)
+  valuation = let number = loneRefusal p rows m in cond (eqb number 0) (Valued figures) (Refused number 0)
 
   -- demand 3, of an answer: N and L lie within document 01's limits of their exact fractions
   abbrev pub Limited : Valuation → Type 0
   Limited (Valued f) =
       Within (N-most caseOf (methodOf (p .method)) (m .age)) (f .cost) (N* caseOf (methodOf (p .method)) (m .age))
       × Within (15 over 1) (f .liability) (L* caseOf (methodOf (p .method)) (m .age))
-  Limited (Refused number) = Unit {0}
+  Limited (Refused number line) = Unit {0}
 
 -- an accepted member with its benefits B(k) and the plan's factors G(k), each in its array
 pub record Ready (p : Plan) (rows : List (List ℕ)) (m : Member) (benefits deferred : List ℕ) : Type 0 where
   pub accepted : AcceptedMember p rows m
   pub accrued : Accrued p rows m benefits
   pub filled : Filled (G (planBasis p rows)) (p .retire) 15 deferred
+
+-- ---- demand 3, of every member that the rules accept: whatever the id before it, each age of its own, each of the five methods
+pub record Accepted (p : Plan) (rows : List (List ℕ)) (before : ℕ) (m : Member) : Type 0 where
+  pub plan : planRefusal p rows ≡ 0
+  pub member : memberRefusal p rows before m ≡ 0
+
+-- what holds of a case, a method and an age, holds of every accepted member
+abbrev pub Of-Every-Accepted : (Case → Method → ℕ → Type 0) → Type 0
+Of-Every-Accepted P =
+    (p : Plan) (rows : List (List ℕ)) (before : ℕ) (m : Member) → Accepted p rows before m
+    → (method : Method) (k : ℕ) → m .entry ≤ k → k ≤ p .retire → P (caseOf p rows m) method k
+
+-- "the part already earned .. and the benefits less the future normal costs .. are equal at each such k"
+abbrev pub Demand-3-Forms : Type 0
+Demand-3-Forms = Of-Every-Accepted (λ c method k. fraction (L* c method k) ≐ fraction (PV* c k) ⊖ fraction (future c method k))
+
+-- "Each differs from its exact fraction, either way, by 15 cents at most; for the N of CP by 15 × W(x) / W(y) cents at most"
+abbrev pub Demand-3-Limits : Type 0
+Demand-3-Limits =
+    Of-Every-Accepted
+    (λ c method k. Within (N-most c method k) (N c method k) (N* c method k) × Within (15 over 1) (L c method k) (L* c method k))

@@ -56,7 +56,7 @@ fn accrued_benefit(
     worth(year, of_age(deferred, k))
 }
 
-// BD: a level share of the years of service.
+// BD: one year's share of the value.
 fn benefit_by_years(
     p: Plan,
     rows: &[[u32; 4]; 106],

@@ -24,10 +24,10 @@ pub struct Figures {
     pub liability: u64,
 }
 
-// The answer for plain values: the figures, or a refusal with line 0.
+// The answer for plain values: the figures, or a refusal's number and line. The line of plain values is 0.
 pub enum Valuation {
     Valued(Figures),
-    Refused(u64),
+    Refused(u64, u64),
 }
 
 // Values a lone member of a plan.
@@ -38,7 +38,7 @@ pub fn value_member(p: Plan, rows: [[u32; 4]; 106], m: Member) -> Valuation
     let judged = judge_lone_member(p, rows, m);
     let refusal = judged.refusal;
     if refusal != 0 {
-        return Valuation::Refused(refusal);
+        return Valuation::Refused(refusal, 0);
     }
     let benefits = judged.benefits;
     let f = figures_of(p, rows, m, benefits);

@@ -1,5 +1,5 @@
 // Reads cases from standard input, one after another, and writes a line for each: the figures of a lone member,
-// `figures=` B(r), V, N and L in cents, or `refused=` the number of its refusal. A case is bytes, a number's little end
+// `figures=` B(r), V, N and L in cents, or `refused=` the number and the line of its refusal. A case is bytes, a number's little end
 // first: the plan's interest, retire, formula, unit, average, method, assets and years in 8 each, then for each age 15
 // to 120 its death, withdrawal, disability and weight in 4 each, then the member's id, entry, age and salary in 8 each.
 // What it must write was made by another program, tests/member_figures.py.
@@ -44,7 +44,7 @@ fn answer(bytes: &[u8; SIZE]) {
     let m = member_of(bytes);
     match costs::value_member(p, rows, m) {
         Valuation::Valued(f) => figures(f),
-        Valuation::Refused(number) => refused(number),
+        Valuation::Refused(number, line) => refused(number, line),
     }
 }
 
@@ -57,14 +57,15 @@ fn figures(f: Figures) {
     io::write_all(STDOUT_FILENO, b"\n");
 }
 
-fn next(amount: u64) {
+fn next(number: u64) {
     io::write_all(STDOUT_FILENO, b",");
-    io::print_decimal(STDOUT_FILENO, amount);
+    io::print_decimal(STDOUT_FILENO, number);
 }
 
-fn refused(number: u64) {
+fn refused(number: u64, line: u64) {
     io::write_all(STDOUT_FILENO, b"refused=");
     io::print_decimal(STDOUT_FILENO, number);
+    next(line);
     io::write_all(STDOUT_FILENO, b"\n");
 }
 

@@ -16,7 +16,7 @@ use Rattle.plan.specs.Weights.{summed}
 use Rattle.plan.specs.Benefit.{B}
 
 -- ---- the heading, lines 1 to 8
--- "interest= basis points, 0 to 2000"; "retire= age r, 50 to 75"
+-- "interest= basis points (hundredths of a percent), 0 to 2000"; "retire= age r, 50 to 75"
 abbrev pub interestRule : ℕ → ℕ
 interestRule i = unless (leb i 2000) 11
 
@@ -114,7 +114,7 @@ benefitRules p rows m =
 unfoldable pub memberRefusal : Plan → List (List ℕ) → (before : ℕ) → Member → ℕ
 memberRefusal p rows before m = firstOf (fieldRules p before m ++ benefitRules p rows m)
 
--- a member whose own fields are right
+-- a member that rules 22, 23 and 24 keep
 pub record Placed (p : Plan) (m : Member) : Type 0 where
   pub grown : 15 ≤ m .entry
   pub enters : m .entry < p .retire
@@ -123,7 +123,7 @@ pub record Placed (p : Plan) (m : Member) : Type 0 where
   pub paid : m .salary ≤ 100000000
 
 -- ---- what is handed on
--- the benefits that an array holds: B(k) for each age from entry to retirement
+-- the benefits that an array holds: B(k) for each age from entry to retirement. The places of other ages are left open
 pub record Accrued (p : Plan) (rows : List (List ℕ)) (m : Member) (a : List ℕ) : Type 0 where
   pub size : length a ≡ 106
   pub each : (k : ℕ) → m .entry ≤ k → k ≤ p .retire → getD a (k - 15) 0 ≡ B p rows m k
@@ -133,7 +133,7 @@ pub record Sums (rows : List (List ℕ)) (a : List ℕ) : Type 0 where
   pub size : length a ≡ 106
   pub each : (k : ℕ) → 15 ≤ k → k ≤ 120 → getD a (k - 15) 0 ≡ summed (weight rows) 15 (k - 15)
 
--- a member of an accepted plan that no rule refuses, whatever the id before
+-- a member of an accepted plan that rules 22 to 26 keep; its id plays no part in the figures
 pub record AcceptedMember (p : Plan) (rows : List (List ℕ)) (m : Member) : Type 0 where
   pub plan : planRefusal p rows ≡ 0
   pub placed : Placed p m
@@ -141,9 +141,9 @@ pub record AcceptedMember (p : Plan) (rows : List (List ℕ)) (m : Member) : Typ
   pub rising : (k : ℕ) → m .entry ≤ k → k < p .retire → B p rows m k ≤ B p rows m (k + 1)
 
 -- ---- the answers
--- a refusal number as an answer; the line of plain values is 0
+-- a refusal number as an answer, "with line 0"
 unfoldable pub answer : ℕ → Acceptance
-answer number = cond (eqb number 0) Accepted (Refused number)
+answer number = cond (eqb number 0) Accepted (Refused number 0)
 
 -- a lone member: the plan's refusal comes first, and no id stands before its own
 unfoldable pub loneRefusal : Plan → List (List ℕ) → Member → ℕ

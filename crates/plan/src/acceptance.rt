@@ -66,7 +66,7 @@ pub fn plan_refusal(p: Plan, rows: [[u32; 4]; 106]) -> u64
     or_else(head_refusal(p), or_else(rows_refusal(rows), 0))
 }
 
-// A refusal, and beside it the member's benefits, which hold where there is none.
+// A refusal, and beside it the member's benefits. With a refusal the benefits are left open.
 pub struct Judged {
     pub refusal: u64,
     pub benefits: [u64; 106],
@@ -129,10 +129,10 @@ fn rises(a: [u64; 106], from: usize, to: usize) -> bool
     true
 }
 
-// The answer of an entry: accepted, or refused with a number. The line is 0.
+// The answer of an entry: accepted, or a refusal's number and line. The line of plain values is 0.
 pub enum Acceptance {
     Accepted,
-    Refused(u64),
+    Refused(u64, u64),
 }
 
 fn answer_of(number: u64) -> Acceptance
@@ -141,7 +141,7 @@ fn answer_of(number: u64) -> Acceptance
     if number == 0 {
         return Acceptance::Accepted;
     }
-    Acceptance::Refused(number)
+    Acceptance::Refused(number, 0)
 }
 
 // Accepts a plan with its rows.
