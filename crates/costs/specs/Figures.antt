@@ -1,4 +1,4 @@
--- Document 01, 'Figures worked by hand': the proved set as far as it concerns factors, benefits, V, N and L, worked from the definitions by one computed check over one list. Cents.
+-- Document 01, 'Figures worked by hand': the proved set as far as it concerns factors, benefits, V, N and L, worked from the definitions by one computed check over one list. Cents. The last entry says that the plan and the member are accepted.
 use mathlib.Core.Path.{_≡_, refl}
 use mathlib.Core.Bool.{true}
 use mathlib.Core.List.{List, [], _∷_, _++_}
@@ -14,6 +14,7 @@ use Rattle.plan.specs.declared.Member.{Member}
 use Rattle.plan.specs.declared.Method.the-variants.{AB, BD, BP, CD, CP}
 use Rattle.plan.specs.Weights.{summed}
 use Rattle.plan.specs.Benefit.{formulaOf, pay, pays, exactBenefit, B}
+use Rattle.plan.specs.Acceptance.{loneRefusal, planRefusal, headRules, rowsRefusal, rowRules, memberRefusal, fieldRules, benefitRules, rises}
 use Rattle.costs.specs.Case.{Case}
 use Rattle.costs.specs.Costs.{PV, cost, N, L}
 use Rattle.costs.specs.Valuation.{caseOf}
@@ -61,8 +62,9 @@ figures =
     ∷ (benefit 3 2 64 is 18182)
     ∷ (benefit 3 2 65 is 38182)
     ∷ (benefit 3 1 65 is 40000)
+    ∷ (loneRefusal short-plan short short-member is 0)
     ∷ []
 
 pub figures-are : all-are figures ≡ true
-unfolding figures factors short stays staying nearest carried step A pension G T Z _over_ whole _⊕_ _⊗_ inverse summed formulaOf pay pays exactBenefit B PV cost N L
+unfolding figures factors short stays staying nearest carried step A pension G T Z _over_ whole _⊕_ _⊗_ inverse summed formulaOf pay pays exactBenefit B PV cost N L loneRefusal planRefusal headRules rowsRefusal rowRules memberRefusal fieldRules benefitRules rises
 figures-are = refl
