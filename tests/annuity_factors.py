@@ -1,4 +1,4 @@
-"""The annuity factors of document 01, 'The figures', worked out with Python's own integers.
+"""The annuity factors of document 01, 'The figures', as tests/oracle.py works them, held to crates/annuity_factors.
 
     python3 tests/annuity_factors.py --write    writes stdin and stdout of crates/annuity_factors
     python3 tests/annuity_factors.py --check    runs target/bin/annuity_factors on generated tables and compares
@@ -12,14 +12,13 @@ import subprocess
 import sys
 from itertools import product
 from pathlib import Path
+from types import SimpleNamespace
+
+from oracle import AGES, FIRST, LAST, MILLION, Factors, certain, nearest, short_table, table
 
 ROOT = Path(__file__).parent.parent
 CRATE = ROOT / 'crates' / 'annuity_factors'
 PROGRAM = ROOT / 'target' / 'bin' / 'annuity_factors'
-FIRST, LAST = 15, 120
-AGES = range(FIRST, LAST + 1)
-MILLION = 1000000
-S = 1000000000
 
 
 class Case:
@@ -32,61 +31,14 @@ class Case:
         return struct.pack('<HBBB', self.i, self.r, self.e, self.m) + b''.join(
             struct.pack('<4I', *self.rows[k]) for k in AGES)
 
-    def staying(self, k):
-        death, withdrawal, disability, _ = self.rows[k]
-        return MILLION - (death + withdrawal + disability if k < self.r else death)
-
-    def step(self, k, factor):
-        return nearest(factor * self.staying(k), 100 * (10000 + self.i))
-
-    def down(self, end, start, amount):
-        """The factors by age: `start` at `end`, and at each age below it its amount and the step of what follows."""
-        factors = {end: start}
-        for k in reversed(range(FIRST, end)):
-            factors[k] = amount(k) + self.step(k, factors[k + 1])
-        return factors
-
-    def A(self):
-        return self.down(LAST, S, lambda k: S)
-
-    def G(self):
-        return self.down(self.r, self.A()[self.r], lambda k: 0)
-
-    def T(self):
-        return self.down(self.e, 0, lambda k: S)
-
-    def Z(self):
-        return self.down(self.e, 0, lambda k: self.rows[k][3] * S)
-
-    def C(self):
-        c = 0
-        for _ in range(self.m):
-            c = S + nearest(c * MILLION, 100 * (10000 + self.i))
-        return {0: c}
-
     def lines(self):
         """The lines that the program must write."""
-        factors = dict(A=self.A(), G=self.G(), T=self.T(), Z=self.Z(), C=self.C())
-        return [' '.join([letter] + [str(of[k]) for k in sorted(of)]) for letter, of in factors.items()]
-
-
-def nearest(n, d):
-    """n / d to the nearest whole, a half up."""
-    return (2 * n + d) // (2 * d)
+        of = Factors(SimpleNamespace(interest=self.i, retire=self.r), self.rows, nearest)
+        factors = dict(A=of.A(), G=of.G(), T=of.T(self.e), Z=of.Z(self.e), C={0: certain(self.i, self.m, nearest)})
+        return [' '.join([letter] + [str(by_age[k]) for k in sorted(by_age)]) for letter, by_age in factors.items()]
 
 
 # ---- tables
-
-def rows(rates, weights):
-    """From the three rates and the weight of each age. At 120 all die."""
-    table = {k: (*rates(k), weights(k)) for k in AGES}
-    table[LAST] = (MILLION, 0, 0, weights(LAST))
-    return table
-
-
-def short_table():
-    return rows(lambda k: (0 if k <= 64 else MILLION, 0, 0), lambda k: 1000 if k <= 63 else 1100)
-
 
 def kinds_of_rates(rng):
     """How a table's three rates are drawn. Where half stay and there is no interest, steps come to exact halves."""
@@ -129,7 +81,7 @@ def generated(rng):
             r = retire()
             e = rng.choice([FIRST, r, rng.randint(FIRST, r)])
             m = rng.choice([0, 1, 40, rng.randint(0, 40)])
-            cases.append(Case(interest(), r, e, m, rows(rates, weights)))
+            cases.append(Case(interest(), r, e, m, table(rates, weights)))
     return cases
 
 
@@ -151,8 +103,8 @@ def stored():
     heavy, rising = kinds_of_rates(rng)['heavy'], kinds_of_weights(rng)['rising']
     return [
         Case(1000, 65, 65, 2, short_table()),
-        Case(0, 75, 60, 40, rows(lambda k: (0, 0, 0), lambda k: 1000)),
-        Case(2000, 50, 50, 17, rows(heavy, rising)),
+        Case(0, 75, 60, 40, table(lambda k: (0, 0, 0), lambda k: 1000)),
+        Case(2000, 50, 50, 17, table(heavy, rising)),
     ]
 
 

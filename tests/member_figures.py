@@ -330,6 +330,9 @@ def generated(rng):
 
 # ---- comparing
 
+# Working every age by every method takes long in fractions: one member in so many is held to it.
+EVERYWHERE = 150
+
 def stored_files():
     cases = [case for case, _ in worked()]
     return {
@@ -352,16 +355,20 @@ def answers(cases):
     return lines
 
 
-def check_exact(case, farthest):
-    """Holds a valued member to the limits and to the two forms of L, and keeps the farthest by method."""
-    method, x = case.plan.method, case.member.age
+def check_exact(case, farthest, everywhere):
+    """Holds a valued member to the limits and to the two forms of L, and keeps the farthest by method: at its own age
+    by the plan's method, or `everywhere`, at each age from entry to retirement by each of the five."""
     rounded, exact = rounded_costs(*case), exact_costs(*case)
-    N, L = strays(rounded, exact, method, x)
-    if max(N, L) > LIMIT or N > SHARP_N[method] or L > SHARP_L[method]:
-        differ(case, f'{METHOD_NAMES[method]}: N strays by {float(N)} and L by {float(L)}', 'which is over a limit')
-    if exact.L(method, x) != exact.future_cost_form(method, x):
-        differ(case, METHOD_NAMES[method], 'the exact L is not the exact V less the future normal costs')
-    farthest[method] = max(farthest[method][0], N), max(farthest[method][1], L)
+    at = [(case.plan.method, case.member.age)]
+    if everywhere:
+        at = product(METHODS, range(case.member.entry, case.plan.retire + 1))
+    for method, k in at:
+        N, L = strays(rounded, exact, method, k)
+        if max(N, L) > LIMIT or N > SHARP_N[method] or L > SHARP_L[method]:
+            differ(case, f'{METHOD_NAMES[method]} at {k}: N strays by {float(N)} and L by {float(L)}', 'over a limit')
+        if exact.L(method, k) != exact.future_cost_form(method, k):
+            differ(case, f'{METHOD_NAMES[method]} at {k}', 'the exact L is not the exact V less the future normal costs')
+        farthest[method] = max(farthest[method][0], N), max(farthest[method][1], L)
 
 
 def check():
@@ -371,13 +378,13 @@ def check():
     check_worked()
     cases = [case for case, _ in worked()] + generated(random.Random(3))
     refused, farthest = Counter(), {method: (0, 0) for method in METHODS}
-    for case, said in zip(cases, answers(cases)):
+    for place, (case, said) in enumerate(zip(cases, answers(cases))):
         if said != case.line():
             differ(case, f'the oracle gives {case.line()}', f'the program {said}')
         if said.startswith('refused='):
             refused[int(said.removeprefix('refused=').split(',')[0])] += 1
         else:
-            check_exact(case, farthest)
+            check_exact(case, farthest, place % EVERYWHERE == 0)
     if set(refused) != REFUSALS:
         sys.exit(f'member_figures: the cases give the refusals {sorted(refused)}')
     report(len(cases), refused, farthest)

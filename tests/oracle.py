@@ -201,6 +201,14 @@ class Factors:
         return self.down(e, 0, lambda k: self.W(k) * S)
 
 
+def certain(i, m, quotient):
+    """C: the annuity of m certain payments, built as T is, P always 1000000."""
+    c = 0
+    for _ in range(m):
+        c = S + quotient(c * MILLION, 100 * (10000 + i))
+    return c
+
+
 # ---- figures
 
 class Costs:
