@@ -1,0 +1,146 @@
+// Reads case files from standard input, each after its length in 4 bytes, the little end first, and writes what reading
+// and what accepting answers: a line for each. Of an accepted case it writes the plan's numbers, the count of members
+// and a check sum of the rows and of the members that were handed on. What it must write was made by another program,
+// tests/case_files.py.
+use casefile::Accepting;
+use casefile::Reading;
+use libc::STDIN_FILENO;
+use libc::STDOUT_FILENO;
+use plan::Plan;
+ghost use Prim.Native.Nat.{_<_};
+
+// The longest file that is tried.
+const SIZE: usize = 70_000;
+
+// The sums are kept below this.
+const PRIME: u64 = 1_000_003;
+
+// A proved loop has to end, and nothing says that the input does: no run uses up these turns.
+fn main() {
+    let mut turns = u64::MAX;
+    while turns > 0 && case() {
+        turns -= 1;
+    }
+}
+
+// Reads a case and answers it. False where the input ends.
+fn case() -> bool {
+    let mut length = [0u8; 4];
+    if io::read_full(STDIN_FILENO, &mut length) < 4 {
+        return false;
+    }
+    let n = wide(length[0]) + 256 * wide(length[1]) + 65_536 * wide(length[2]);
+    let mut bytes = [0u8; SIZE];
+    of_length(&mut bytes, n)
+}
+
+// A case of n bytes, if there is room.
+fn of_length(room: &mut [u8], n: usize) -> bool {
+    if n > room.len() {
+        return false;
+    }
+    answered(&mut room[..n])
+}
+
+// A case that fills these bytes.
+fn answered(bytes: &mut [u8]) -> bool {
+    if io::read_full(STDIN_FILENO, bytes) < bytes.len() {
+        return false;
+    }
+    reading(bytes);
+    accepting(bytes);
+    true
+}
+
+fn reading(case: &[u8]) {
+    match casefile::read_case(case) {
+        Reading::Read => {
+            io::write_all(STDOUT_FILENO, b"read\n");
+        }
+        Reading::Refused(number, line) => refused(number, line),
+    }
+}
+
+fn accepting(case: &[u8]) {
+    let mut rows = [[0u32; 4]; 106];
+    let mut members = [0u64; 4000];
+    match casefile::accept_case(case, &mut rows, &mut members) {
+        Accepting::Accepted(p, count) => {
+            io::write_all(STDOUT_FILENO, b"accepted=");
+            terms(p);
+            io::print_decimal(STDOUT_FILENO, count);
+            next(sum_of_rows(rows));
+            next(sum_of_members(members, count));
+            io::write_all(STDOUT_FILENO, b"\n");
+        }
+        Accepting::Refused(number, line) => refused(number, line),
+    }
+}
+
+fn terms(p: Plan) {
+    term(p.interest);
+    term(p.retire);
+    term(p.formula);
+    term(p.unit);
+    term(p.average);
+    term(p.method);
+    term(p.assets);
+    term(p.years);
+}
+
+fn term(number: u64) {
+    io::print_decimal(STDOUT_FILENO, number);
+    io::write_all(STDOUT_FILENO, b",");
+}
+
+fn next(number: u64) {
+    io::write_all(STDOUT_FILENO, b",");
+    io::print_decimal(STDOUT_FILENO, number);
+}
+
+fn refused(number: u64, line: u64) {
+    io::write_all(STDOUT_FILENO, b"refused=");
+    io::print_decimal(STDOUT_FILENO, number);
+    next(line);
+    io::write_all(STDOUT_FILENO, b"\n");
+}
+
+// The sum so far, with one number more.
+fn sum(so_far: u64, number: u64) -> u64 {
+    (so_far % PRIME * 31 + number % PRIME) % PRIME
+}
+
+fn sum_of_rows(rows: [[u32; 4]; 106]) -> u64 {
+    let mut total = 0;
+    for j in 0..106 {
+        total = sum_of_row(total, rows[j]);
+    }
+    total
+}
+
+fn sum_of_row(so_far: u64, row: [u32; 4]) -> u64 {
+    let death = sum(so_far, number(row[0]));
+    let withdrawal = sum(death, number(row[1]));
+    let disability = sum(withdrawal, number(row[2]));
+    sum(disability, number(row[3]))
+}
+
+fn sum_of_members(members: [u64; 4000], count: u64) -> u64 {
+    let mut total = 0;
+    for j in 0..4000 {
+        if (j as u64) / 4 < count {
+            total = sum(total, members[j]);
+        }
+    }
+    total
+}
+
+fn number(x: u32) -> u64 {
+    x as u64
+}
+
+fn wide(x: u8) -> usize
+    ensures { λ r. ⌜ r < 256 ⌝ }
+{
+    x as usize
+}

@@ -1,0 +1,170 @@
+-- The parts of a case file, one after the other. `h`, `q` and `a` are what the code answers of the heading, the rows and the members, with the two arrays.
+use Prim.Native.Nat.{ℕ, zero, suc, _+_, _≤_, _<_}
+use mathlib.Core.Path.{_≡_, refl, sym, ap, subst, _∙_}
+use mathlib.Core.List.{List, [], _∷_, _++_}
+use mathlib.Core.Bool.{Bool, true, false, cond}
+use mathlib.Core.Logic.{⊎-elim}
+use lib.ListN.{length, getD, length-append, List·getD-append}
+use lib.Seq.{getD-append-seam}
+use native.Mathlib.Omega.{arith}
+use native.Mathlib.Nat.{eq-or-lt-of-le}
+use borrow.Author.Tests.{lt-ltb, le-ltb}
+use Rattle.plan.specs.declared.Plan.{Plan}
+use Rattle.plan.specs.declared.Member.{Member}
+use Rattle.plan.specs.Acceptance.{planRefusal}
+use Rattle.casefile.specs.declared.heading.Heading.{Heading}
+use Rattle.casefile.specs.declared.heading.Heading.the-variants.{Terms, Refused as HeadingRefused}
+use Rattle.casefile.specs.declared.rows.Table.{Table}
+use Rattle.casefile.specs.declared.rows.Table.the-variants.{Full, Refused as TableRefused}
+use Rattle.casefile.specs.declared.members.Count.{Count}
+use Rattle.casefile.specs.declared.members.Count.the-variants.{Members, Refused as CountRefused}
+use Rattle.casefile.specs.declared.members.Entry.{Entry}
+use Rattle.casefile.specs.declared.members.Entry.the-variants.{OfMember, OfEnd, Surplus, Neither}
+use Rattle.casefile.specs.declared.Walk.the-variants.{Whole}
+use Rattle.casefile.specs.Split.{hasOf, uptoOf, pastOf, linesPast}
+use Rattle.casefile.specs.Outcome.{Outcome, values, refusal, prepend}
+use Rattle.casefile.specs.Heading.{headOf, planOf}
+use Rattle.casefile.specs.Rows.{rowsOf}
+use Rattle.casefile.specs.Members.{entryOf, afterEntry, membersOf}
+use Rattle.casefile.specs.Case.{Case, walkOf, nobody}
+use Rattle.casefile.specs.Stored.{headed, tabled, narrowOf, each, in32, memberAt, membersIn, filed, walked, Holds}
+use Rattle.casefile.proofs.OutcomeLaws.{no-values}
+use Rattle.casefile.proofs.AcceptedLaws.{rows-narrow, refuses-none}
+
+-- ---- without ranges the members do not hang on the plan and its rows
+module _ (p q : Plan) (rows table : List (List ℕ)) where
+  entry-alike : (count before : ℕ) (x : Entry) (rest : List ℕ) (f g : Member → Outcome (List Member)) → ((m : Member) → f m ≡ g m) → afterEntry false p rows count before x rest f ≡ afterEntry false q table count before x rest g
+  entry-alike count before (OfMember m) rest f g e = ap (prepend (m ∷ [])) (e m)
+  entry-alike count before (OfEnd n) rest f g e = refl
+  entry-alike count before Surplus rest f g e = refl
+  entry-alike count before Neither rest f g e = refl
+
+  pub members-alike : (n count before : ℕ) (s : List ℕ) → membersOf false p rows n count before s ≡ membersOf false q table n count before s
+  unfolding membersOf
+  members-alike zero count before s =
+      ap (λ (o : Outcome (List Member)). cond (hasOf 10 s) o (refusal 2 (count + 115))) (entry-alike count before (entryOf true (uptoOf 10 s)) (pastOf 10 s) _ _ (λ m. refl))
+  members-alike (suc n) count before s =
+      ap (λ (o : Outcome (List Member)). cond (hasOf 10 s) o (refusal 2 (count + 115))) (entry-alike count before (entryOf false (uptoOf 10 s)) (pastOf 10 s) _ _ (λ m. members-alike n (count + 1) (m .id) (pastOf 10 s)))
+
+members-same : (ranges : Bool) (p : Plan) (rows table : List (List ℕ)) (s : List ℕ) → (ranges ≡ true → rows ≡ table) → membersOf ranges p rows 1000 0 0 s ≡ membersOf ranges p table 1000 0 0 s
+members-same true p rows table s e = rw (e refl)
+members-same false p rows table s e = members-alike p p rows table 1000 0 0 s
+
+-- ---- the members that an array holds
+pub length-in : (a : List ℕ) (n : ℕ) → length (membersIn a n) ≡ n
+unfolding membersIn
+length-in a zero = refl
+length-in a (suc n) = rw (length-append (membersIn a n) (memberAt a n ∷ []), length-in a n) (omega arith)
+
+pub member-in : (a : List ℕ) (n j : ℕ) → j < n → memberAt a j ≡ getD (membersIn a n) j nobody
+unfolding membersIn
+member-in a zero j h = absurd (omega arith)
+member-in a (suc n) j h =
+    let before = membersIn a n in
+    let long = length-in a n in
+    ⊎-elim
+    (λ (e : j ≡ n). rw e (sym (subst (λ (k : ℕ). getD (before ++ (memberAt a n ∷ [])) k nobody ≡ memberAt a n) long (getD-append-seam before (memberAt a n) [] nobody))))
+    (λ (l : j < n). member-in a n j l ∙ sym (List·getD-append before (memberAt a n ∷ []) nobody j (omega arith)))
+    (eq-or-lt-of-le (omega arith))
+
+-- ---- what an answer says of the outcome that it stands for
+head-refused : (o : Outcome (List ℕ)) {n l : ℕ} → HeadingRefused n l ≡ headed o → o ≡ refusal n l
+head-refused (values t) e = let z : _≡_ {A = ℕ} 0 1 = cc in absurd (omega arith)
+head-refused (refusal n l) e = cc
+
+head-terms : (o : Outcome (List ℕ)) {p : Plan} → Terms p ≡ headed o → (t : List ℕ) × (o ≡ values t) × (p ≡ planOf t)
+head-terms (values t) e = (t, refl, (cc))
+head-terms (refusal n l) e = let z : _≡_ {A = ℕ} 0 1 = cc in absurd (omega arith)
+
+rows-refused : (o : Outcome (List (List ℕ))) {n l : ℕ} → in32 o ≡ refusal n l → o ≡ refusal n l
+rows-refused (values t) e = no-values (sym e)
+rows-refused (refusal n l) e = e
+
+rows-full : (o : Outcome (List (List ℕ))) {table : List (List ℕ)} → in32 o ≡ values table → (t : List (List ℕ)) × (o ≡ values t) × (each (each narrowOf) t ≡ table)
+rows-full (values t) e = (t, refl, (cc))
+rows-full (refusal n l) e = no-values e
+
+-- ranges that are settled
+off : {A : Type 0} → false ≡ true → A
+off e = let z : _≡_ {A = ℕ} 0 1 = cc in absurd (omega arith)
+
+rows-exact : (ranges : Bool) (s : List ℕ) (t : List (List ℕ)) → ranges ≡ true → rowsOf ranges 106 15 0 s ≡ values t → each (each narrowOf) t ≡ t
+rows-exact true s t on e = rows-narrow 106 15 0 s t e
+rows-exact false s t on e = off on
+
+plan-exact : (ranges : Bool) (u s t : List ℕ) (rows : List (List ℕ)) → ranges ≡ true → headOf ranges 8 1 0 s ≡ values t → rowsOf ranges 106 15 0 u ≡ values rows → planRefusal (planOf t) rows ≡ 0
+plan-exact true u s t rows on head lines = refuses-none u s t rows head lines
+plan-exact false u s t rows on head lines = off on
+
+walk-exact : (ranges : Bool) (s : List ℕ) (c : Case) → ranges ≡ true → walkOf ranges s ≡ values c → walkOf true s ≡ values c
+walk-exact true s c on e = e
+walk-exact false s c on e = off on
+
+values-one : {A : Type 0} {a b : A} → values a ≡ values b → a ≡ b
+values-one e = cc
+
+-- a refused walk holds nothing
+pub refused-holds : (ranges : Bool) (s : List ℕ) {n l : ℕ} → walkOf ranges s ≡ refusal n l → (rows : List (List ℕ)) (members : List ℕ) → ranges ≡ true → (c : Case) → walkOf true s ≡ values c → Holds c rows members
+refused-holds ranges s e rows members is c f = let g : walkOf ranges s ≡ values c = rw is f in no-values (sym e ∙ g)
+
+pub walk-long : (ranges : Bool) (s : List ℕ) → 65536 < length s → walkOf ranges s ≡ refusal 1 0
+unfolding walkOf
+walk-long ranges s long = simp (lt-ltb _ _ long)
+
+module _ (ranges : Bool) (s : List ℕ) {h : Heading} (short : length s ≤ 65536) (head : h ≡ headed (headOf ranges 8 1 0 s)) where
+  pub walk-head : {n l : ℕ} → h ≡ HeadingRefused n l → walkOf ranges s ≡ refusal n l
+  unfolding walkOf
+  walk-head e = simp (le-ltb _ _ short, head-refused (headOf ranges 8 1 0 s) (sym e ∙ head))
+
+  module _ {p : Plan} {u : List ℕ} (q : Table) (table : List (List ℕ)) (is : h ≡ Terms p) (past : u ≡ linesPast 8 s) (tabulated : in32 (rowsOf ranges 106 15 0 u) ≡ tabled q table) where
+    terms : (t : List ℕ) × (headOf ranges 8 1 0 s ≡ values t) × (p ≡ planOf t)
+    terms = head-terms (headOf ranges 8 1 0 s) (sym is ∙ head)
+
+    lines : in32 (rowsOf ranges 106 15 0 (linesPast 8 s)) ≡ tabled q table
+    lines = rw past at tabulated
+
+    pub walk-rows : {n l : ℕ} → q ≡ TableRefused n l → walkOf ranges s ≡ refusal n l
+    unfolding walkOf
+    walk-rows e =
+        simp (le-ltb _ _ short, terms .1, rows-refused (rowsOf ranges 106 15 0 (linesPast 8 s)) (rw e at lines))
+
+    module _ (full : q ≡ Full) where
+      rows : (t : List (List ℕ)) × (rowsOf ranges 106 15 0 (linesPast 8 s) ≡ values t) × (each (each narrowOf) t ≡ table)
+      rows = rows-full (rowsOf ranges 106 15 0 (linesPast 8 s)) (rw full at lines)
+
+      exact : ranges ≡ true → rows .0 ≡ table
+      exact on = sym (rows-exact ranges (linesPast 8 s) (rows .0) on (rows .1)) ∙ rows .2
+
+      -- the plan is accepted before the first member is judged
+      pub walk-plan : ranges ≡ true → planRefusal p table ≡ 0
+      walk-plan on =
+          let accepted = plan-exact ranges (linesPast 8 s) s (terms .0) (rows .0) on (terms .1) (rows .1) in
+          (λ i. planRefusal (terms .2 i) (sym (exact on) i)) ∙ accepted
+
+      module _ {v : List ℕ} (a : Count) (members : List ℕ) (past₂ : v ≡ linesPast 114 s) (file : membersOf ranges p table 1000 0 0 v ≡ filed a members) where
+        outcome : membersOf ranges (planOf (terms .0)) (rows .0) 1000 0 0 (linesPast 114 s) ≡ filed a members
+        outcome =
+            (λ i. membersOf ranges (sym (terms .2) i) (rows .0) 1000 0 0 (sym past₂ i)) ∙ members-same ranges p (rows .0) table v exact ∙ file
+
+        pub walk-members : {n l : ℕ} → a ≡ CountRefused n l → walkOf ranges s ≡ refusal n l
+        unfolding walkOf
+        walk-members e = simp (le-ltb _ _ short, terms .1, rows .1, rw e at outcome)
+
+        module _ {n : ℕ} (ended : a ≡ Members n) where
+          case : Case
+          case = record { plan = planOf (terms .0); rows = rows .0; members = membersIn members n }
+
+          whole : walkOf ranges s ≡ values case
+          unfolding walkOf case
+          whole = simp (le-ltb _ _ short, terms .1, rows .1, rw ended at outcome)
+
+          pub walk-whole : Whole p n ≡ walked (walkOf ranges s)
+          unfolding case
+          walk-whole = (λ i. Whole (terms .2 i) (sym (length-in members n) i)) ∙ ap walked (sym whole)
+
+          pub walk-holds : ranges ≡ true → (c : Case) → walkOf true s ≡ values c → Holds c table members
+          unfolding case
+          walk-holds on c e =
+              let same : case ≡ c = values-one (sym (walk-exact ranges s case on whole) ∙ e) in
+              subst (λ (c : Case). Holds c table members) same
+              (record { table = sym (exact on); member = λ j h. member-in members n j (rw (length-in members n) at h) })

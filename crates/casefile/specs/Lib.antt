@@ -1,0 +1,11 @@
+-- The case file, in the order of document 01.
+pub mod Text
+pub mod Numbers
+pub mod Split
+pub mod Fields
+pub mod Outcome
+pub mod Heading
+pub mod Rows
+pub mod Members
+pub mod Case
+pub mod Stored

@@ -1,0 +1,162 @@
+// The lines after the rows: the members and the end.
+use crate::numbers::Number;
+use crate::numbers::Three;
+use crate::numbers::amount;
+use crate::numbers::fourth;
+use crate::numbers::three_fields;
+use crate::numbers::whole;
+use crate::text::after_line;
+use crate::text::line;
+use crate::text::seek;
+use crate::text::starts;
+use plan::Member;
+use plan::Plan;
+use plan::acceptance::judge_member;
+ghost use mathlib.Core.Path.{_≡_};
+ghost use mathlib.Core.Bool.{true};
+ghost use Prim.Native.Nat.{_<_, _≤_};
+ghost use Rattle.plan.specs.Acceptance.{planRefusal, memberRefusal};
+ghost use Rattle.casefile.specs.Outcome.{settled};
+ghost use Rattle.casefile.specs.Members.{memberOf, entryOf, endOf, membersOf};
+ghost use Rattle.casefile.specs.Stored.{storedAt, counted, filed};
+
+// What a line after the rows holds.
+pub enum Entry {
+    OfMember(Member),
+    OfEnd(u64),
+    Surplus,
+    Neither,
+}
+
+// A member's id, entry age, age and salary, with commas between.
+fn member_fields(s: &[u8]) -> Entry
+    ensures { λ r. ⌜ r ≡ memberOf (now (s .entry)) ⌝ }
+{
+    let Three::Found(id, entry, age) = three_fields(s) else {
+        return Entry::Neither;
+    };
+    let Number::Value(salary) = amount(fourth(s)) else {
+        return Entry::Neither;
+    };
+    Entry::OfMember(Member {
+        id,
+        entry,
+        age,
+        salary,
+    })
+}
+
+// A line after the rows, without its byte 10. When the members are full one more is a surplus.
+fn entry_line(s: &[u8], full: bool) -> Entry
+    ensures { λ r. ⌜ r ≡ entryOf full (now (s .entry)) ⌝ }
+{
+    if starts(s, b"member=") {
+        if full {
+            Entry::Surplus
+        } else {
+            member_fields(&s[7..])
+        }
+    } else if starts(s, b"end=") {
+        match whole(&s[4..]) {
+            Number::Value(n) => Entry::OfEnd(n),
+            Number::Malformed => Entry::Neither,
+        }
+    } else {
+        Entry::Neither
+    }
+}
+
+// The range rules of a member where the ranges are settled: a number, 0 for none.
+fn member_refusal(ranges: bool, p: Plan, rows: [[u32; 4]; 106], before: u64, m: Member) -> u64
+    requires { ⌜ (ranges ≡ true → planRefusal p rows ≡ 0) ⌝ }
+    ensures { λ r. ⌜ r ≡ settled ranges (memberRefusal p rows before m) ⌝ }
+{
+    if ranges {
+        let judged = judge_member(p, rows, before, m);
+        judged.refusal
+    } else {
+        0
+    }
+}
+
+// Puts member j into its four places.
+fn put(members: &mut [u64; 4000], j: usize, m: Member)
+    requires { ⌜ j < 1000 ⌝ }
+    ensures { λ _. ⌜ now (members .exit) ≡ storedAt (now (members .entry)) j m ⌝ }
+{
+    members[j * 4] = m.id;
+    members[j * 4 + 1] = m.entry;
+    members[j * 4 + 2] = m.age;
+    members[j * 4 + 3] = m.salary;
+}
+
+// The count of members, or the first refusal's number and line.
+pub enum Count {
+    Members(u64),
+    Refused(u64, u64),
+}
+
+// The end line after `count` members, with what follows it.
+fn ending(n: u64, count: u64, rest: &[u8]) -> Count
+    requires { ⌜ count ≤ 1000 ⌝ }
+    ensures { λ r. ⌜ r ≡ counted count (endOf n count (now (rest .entry))) ⌝ }
+{
+    if n == count {
+        if rest.len() == 0 {
+            Count::Members(count)
+        } else {
+            Count::Refused(3, count + 116)
+        }
+    } else {
+        Count::Refused(4, count + 115)
+    }
+}
+
+// Reads the members into the array, and the end.
+pub fn member_lines(
+    s: &[u8],
+    ranges: bool,
+    p: Plan,
+    rows: [[u32; 4]; 106],
+    members: &mut [u64; 4000],
+) -> Count
+    requires { ⌜ (ranges ≡ true → planRefusal p rows ≡ 0) ⌝ }
+    ensures { λ r. ⌜ membersOf ranges p rows 1000 0 0 (now (s .entry)) ≡ filed r (now (members .exit)) ⌝ }
+{
+    // Nothing that the caller left there is taken for a member.
+    *members = [0u64; 4000];
+    let mut rest = s;
+    let mut left: u64 = 1000;
+    let mut count: u64 = 0;
+    let mut before: u64 = 0;
+    loop {
+        let here = count + 115;
+        let e = seek(rest, 10);
+        if rest.len() <= e {
+            return Count::Refused(2, here);
+        }
+        match entry_line(line(rest, e), left == 0) {
+            Entry::OfMember(m) => {
+                let refusal = member_refusal(ranges, p, rows, before, m);
+                if refusal != 0 {
+                    return Count::Refused(refusal, here);
+                }
+                put(members, count as usize, m);
+                let next = after_line(rest, e);
+                rest = next;
+                before = m.id;
+                count += 1;
+                left -= 1;
+            }
+            Entry::OfEnd(n) => {
+                return ending(n, count, after_line(rest, e));
+            }
+            Entry::Surplus => {
+                return Count::Refused(27, here);
+            }
+            Entry::Neither => {
+                return Count::Refused(20, here);
+            }
+        }
+    }
+}

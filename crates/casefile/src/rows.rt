@@ -1,0 +1,131 @@
+// Lines 9 to 114: a row for each age from 15 to 120.
+use crate::numbers::Number;
+use crate::numbers::Three;
+use crate::numbers::fourth;
+use crate::numbers::three_fields;
+use crate::numbers::whole;
+use crate::text::after_line;
+use crate::text::line;
+use crate::text::past;
+use crate::text::seek;
+use crate::text::starts;
+use crate::text::upto;
+use plan::rules::Row;
+use plan::rules::row_rule;
+ghost use mathlib.Core.Path.{_≡_};
+ghost use Prim.Native.Nat.{_<_};
+ghost use Rattle.casefile.specs.Outcome.{settled};
+ghost use Rattle.casefile.specs.Rows.{ratesOf, rowOf, rowRule, rowsOf};
+ghost use Rattle.casefile.specs.Stored.{narrowOf, tabled, in32};
+
+// What a row's line holds: its numbers, as wide as they stand there, or a wrong form.
+pub enum RowForm {
+    Rates(u64, u64, u64, u64),
+    Wrong,
+}
+
+// Four whole numbers with commas between.
+fn rates(s: &[u8]) -> RowForm
+    ensures { λ r. ⌜ r ≡ ratesOf (now (s .entry)) ⌝ }
+{
+    let Three::Found(death, withdrawal, disability) = three_fields(s) else {
+        return RowForm::Wrong;
+    };
+    let Number::Value(weight) = whole(fourth(s)) else {
+        return RowForm::Wrong;
+    };
+    RowForm::Rates(death, withdrawal, disability, weight)
+}
+
+// The row of an age, from a line without its byte 10.
+fn row_line(s: &[u8], age: u64) -> RowForm
+    ensures { λ r. ⌜ r ≡ rowOf age (now (s .entry)) ⌝ }
+{
+    if starts(s, b"row=") {
+        let t = &s[4..];
+        let Number::Value(a) = whole(upto(t, 44)) else {
+            return RowForm::Wrong;
+        };
+        if a == age {
+            rates(past(t, 44))
+        } else {
+            RowForm::Wrong
+        }
+    } else {
+        RowForm::Wrong
+    }
+}
+
+// The range rules of a row where the ranges are settled: a number, 0 for none.
+fn row_refusal(ranges: bool, age: u64, before: u64, d: u64, w: u64, i: u64, z: u64) -> u64
+    requires { ⌜ (d < 1000000000000) × (w < 1000000000000) × (i < 1000000000000) ⌝ }
+    ensures { λ r. ⌜ r ≡ settled ranges (rowRule age before d w i z) ⌝ }
+{
+    if ranges {
+        let row = Row {
+            death: d,
+            withdrawal: w,
+            disability: i,
+            weight: z,
+        };
+        row_rule(age as usize, before, row)
+    } else {
+        0
+    }
+}
+
+// A number in 32 bits; a larger one becomes the largest. Where the ranges are settled no number is larger.
+fn narrow(x: u64) -> u32
+    ensures { λ r. ⌜ r ≡ narrowOf x ⌝ }
+{
+    if x < 4_294_967_295 {
+        x as u32
+    } else {
+        4_294_967_295
+    }
+}
+
+// The table is full, or the first refusal's number and line.
+pub enum Table {
+    Full,
+    Refused(u64, u64),
+}
+
+// Reads the 106 rows into the table, up to the first that is refused.
+pub fn row_lines(s: &[u8], ranges: bool, table: &mut [[u32; 4]; 106]) -> Table
+    ensures { λ r. ⌜ in32 (rowsOf ranges 106 15 0 (now (s .entry))) ≡ tabled r (now (table .exit)) ⌝ }
+{
+    // Nothing that the caller left there is taken for a row.
+    *table = [[0u32; 4]; 106];
+    let mut rest = s;
+    let mut left: u64 = 106;
+    let mut age: u64 = 15;
+    let mut before: u64 = 0;
+    while 0 < left {
+        let here = age - 6;
+        let e = seek(rest, 10);
+        if rest.len() <= e {
+            return Table::Refused(2, here);
+        }
+        match row_line(line(rest, e), age) {
+            RowForm::Rates(d, w, i, z) => {
+                let refusal = row_refusal(ranges, age, before, d, w, i, z);
+                if refusal != 0 {
+                    return Table::Refused(refusal, here);
+                }
+                let k = (age - 15) as usize;
+                let row = [narrow(d), narrow(w), narrow(i), narrow(z)];
+                table[k] = row;
+                before = z;
+            }
+            RowForm::Wrong => {
+                return Table::Refused(10, here);
+            }
+        }
+        let next = after_line(rest, e);
+        rest = next;
+        age += 1;
+        left -= 1;
+    }
+    Table::Full
+}

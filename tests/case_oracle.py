@@ -1,0 +1,121 @@
+"""The case file of document 01, read and accepted in Python: another program, written from the paper.
+
+An answer is None where the file is read, or accepted, and else the refusal's number and line.
+"""
+import re
+
+from oracle import AGES, FIRST, Member, Plan, first, refusal_of_member, refusal_of_row, refusals_of_head
+
+MOST_BYTES = 65536
+MOST_MEMBERS = 1000
+WHOLE = rb'(0|[1-9][0-9]{0,11})'
+AMOUNT = WHOLE + rb'\.([0-9]{2})'
+WORDS = {b'flat': 1, b'career': 2, b'final': 3, b'AB': 1, b'BD': 2, b'BP': 3, b'CD': 4, b'CP': 5}
+HEADING = [
+    (b'interest=', WHOLE), (b'retire=', WHOLE), (b'formula=', rb'(flat|career|final)'), (b'unit=', WHOLE),
+    (b'average=', WHOLE), (b'method=', rb'(AB|BD|BP|CD|CP)'), (b'assets=', AMOUNT), (b'years=', WHOLE),
+]
+ROW = rb'row=' + rb','.join([WHOLE] * 5)
+MEMBER = rb'member=' + rb','.join([WHOLE] * 3 + [AMOUNT])
+
+
+class Refused(Exception):
+    pass
+
+
+class Lines:
+    """The lines in turn. Where the bytes end before a line does, it is refused with 2."""
+
+    def __init__(self, case):
+        self.case, self.at, self.number = case, 0, 0
+
+    def next(self):
+        self.number += 1
+        end = self.case.find(b'\n', self.at)
+        if end < 0:
+            raise Refused(2, self.number)
+        line, self.at = self.case[self.at:end], end + 1
+        return line
+
+    def refuse(self, number):
+        if number:
+            raise Refused(number, self.number)
+
+
+def heading(lines, ranges):
+    values = []
+    for place, (key, form) in enumerate(HEADING):
+        found = re.fullmatch(key + form, lines.next())
+        if not found:
+            lines.refuse(10)
+        word = found[1]
+        values.append(WORDS[word] if word in WORDS else int(b''.join(found.groups())))
+        if ranges:
+            so_far = Plan(*values, *[0] * (len(HEADING) - len(values)))
+            lines.refuse(list(refusals_of_head(so_far))[place])
+    return Plan(*values)
+
+
+def table(lines, ranges):
+    rows = {}
+    for age in AGES:
+        found = re.fullmatch(ROW, lines.next())
+        if not found or int(found[1]) != age:
+            lines.refuse(10)
+        rows[age] = tuple(map(int, found.groups()[1:]))
+        if ranges:
+            lines.refuse(refusal_of_row(rows, age))
+    return rows
+
+
+def members(lines, plan, rows, ranges):
+    found, id_before = [], 0
+    while True:
+        line = lines.next()
+        if line.startswith(b'member='):
+            if len(found) == MOST_MEMBERS:
+                lines.refuse(27)
+            form = re.fullmatch(MEMBER, line)
+            if not form:
+                lines.refuse(20)
+            id, entry, age, dollars, cents = map(int, form.groups())
+            member = Member(id, entry, age, 100 * dollars + cents)
+            if ranges:
+                lines.refuse(refusal_of_member(plan, rows, member, id_before))
+            found.append(member)
+            id_before = member.id
+            continue
+        form = re.fullmatch(rb'end=' + WHOLE, line)
+        if not form:
+            lines.refuse(20)
+        if int(form[1]) != len(found):
+            lines.refuse(4)
+        if lines.at < len(lines.case):
+            raise Refused(3, lines.number + 1)
+        return found
+
+
+def walk(case, ranges):
+    """The plan, the rows and the members."""
+    if len(case) > MOST_BYTES:
+        raise Refused(1, 0)
+    lines = Lines(case)
+    plan = heading(lines, ranges)
+    rows = table(lines, ranges)
+    return plan, rows, members(lines, plan, rows, ranges)
+
+
+def answer(case, ranges):
+    try:
+        walk(case, ranges)
+    except Refused as refusal:
+        return refusal.args
+    return None
+
+
+def reading(case):
+    return answer(case, False)
+
+
+def accepting(case):
+    return answer(case, True)
