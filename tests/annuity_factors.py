@@ -14,6 +14,7 @@ from itertools import product
 from pathlib import Path
 from types import SimpleNamespace
 
+import commands
 from oracle import AGES, FIRST, LAST, MILLION, Factors, certain, nearest, short_table, table
 
 ROOT = Path(__file__).parent.parent
@@ -121,9 +122,6 @@ def stored_files():
 
 
 def check():
-    for path, made in stored_files().items():
-        if path.read_bytes() != made:
-            sys.exit(f'annuity_factors: {path} differs from what this program makes')
     good, bad = stored() + generated(random.Random(2)), skipped()
     expected = [(f'case {n}', line) for n, case in enumerate(good) for line in case.lines()]
     expected += [(f'skipped case {n}', 'skipped') for n in range(len(bad))]
@@ -140,10 +138,4 @@ def check():
 
 
 if __name__ == '__main__':
-    if sys.argv[1:] == ['--check']:
-        check()
-    elif sys.argv[1:] == ['--write']:
-        for path, made in stored_files().items():
-            path.write_bytes(made)
-    else:
-        sys.exit(__doc__)
+    commands.run('annuity_factors', __doc__, stored_files, check)

@@ -13,6 +13,7 @@ import sys
 from collections import Counter
 from pathlib import Path
 
+import commands
 from case_oracle import Refused, reading, walk
 from oracle import AGES, short_table
 
@@ -191,9 +192,6 @@ def numbers_of(lines):
 
 
 def check():
-    for path, made in stored_files().items():
-        if path.read_bytes() != made:
-            sys.exit(f'case_files: {path} differs from what this program makes')
     files = all_files()
     said = subprocess.run([PROGRAM], input=given(files), stdout=subprocess.PIPE, check=True).stdout.decode().split('\n')
     expected = [line for case in files for line in answers(case)]
@@ -210,10 +208,4 @@ def check():
 
 
 if __name__ == '__main__':
-    if sys.argv[1:] == ['--check']:
-        check()
-    elif sys.argv[1:] == ['--write']:
-        for path, made in stored_files().items():
-            path.write_bytes(made)
-    else:
-        sys.exit(__doc__)
+    commands.run('case_files', __doc__, stored_files, check)

@@ -17,6 +17,7 @@ from itertools import product
 from pathlib import Path
 from typing import NamedTuple
 
+import commands
 from accuracy_search import FIGURES, Shape, largest_salary, pushed
 from oracle import (AB, AGES, CAREER, CD, CP, FINAL, FIRST, FLAT, FORMULAS, LAST, LIMIT, METHOD_NAMES, METHODS, MILLION,
                     MOST_ASSETS, MOST_BENEFIT, MOST_SALARY, S, SHARP_L, SHARP_N, Factors, Member, Plan, benefit,
@@ -372,9 +373,6 @@ def check_exact(case, farthest, everywhere):
 
 
 def check():
-    for path, made in stored_files().items():
-        if path.read_bytes() != made:
-            sys.exit(f'member_figures: {path} differs from what this program makes')
     check_worked()
     cases = [case for case, _ in worked()] + generated(random.Random(3))
     refused, farthest = Counter(), {method: (0, 0) for method in METHODS}
@@ -398,10 +396,4 @@ def report(count, refused, farthest):
 
 
 if __name__ == '__main__':
-    if sys.argv[1:] == ['--check']:
-        check()
-    elif sys.argv[1:] == ['--write']:
-        for path, made in stored_files().items():
-            path.write_bytes(made)
-    else:
-        sys.exit(__doc__)
+    commands.run('member_figures', __doc__, stored_files, check)
