@@ -1,5 +1,5 @@
--- What an accepted case is, for those who value it: `accepted-case` of the definition, `accepted-files` of what accept_case answers.
-use Prim.Native.Nat.{ℕ, zero, suc, _<_}
+-- What an accepted case is, for those who value it: `accepted-case` of the definition, `accepted-arrays` of what accept_case answers.
+use Prim.Native.Nat.{ℕ, zero, suc, _≤_, _<_}
 use mathlib.Core.Path.{_≡_, refl, sym, subst, ap}
 use mathlib.Core.List.{List, [], _∷_}
 use mathlib.Core.Bool.{Bool, true, false, cond}
@@ -16,8 +16,9 @@ use Rattle.casefile.specs.Heading.{headOf, planOf}
 use Rattle.casefile.specs.Rows.{rowsOf}
 use Rattle.casefile.specs.Members.{membersOf}
 use Rattle.casefile.specs.Case.{Case, walkOf, acceptingOf, accepting, nobody, idBefore, AcceptedCase}
-use Rattle.casefile.specs.Stored.{idBeforeAt, Holds, Filed}
+use Rattle.casefile.specs.Stored.{arrayOf, idBeforeAt, rowsAfter, membersAfter, AcceptedArrays}
 use Rattle.casefile.proofs.OutcomeLaws.{no-values}
+use Rattle.casefile.proofs.StoredLaws.{array-member}
 use Rattle.casefile.proofs.AcceptedLaws.{rows-count, refuses-none, Kept, members-kept}
 
 -- the id before member j, after a first one
@@ -65,26 +66,26 @@ unfolding acceptingOf walkOf
 accepted-case s c e = head-in s (linesPast 8 s) (linesPast 114 s) c (ltb 65536 (length s)) (headOf true 8 1 0 s) refl e
 
 -- ---- what accept_case answers, with its arrays
-accepted-of : (o : Outcome Case) {p : Plan} {n : ℕ} → Accepted p n ≡ accepting o → (c : Case) × (o ≡ values c) × (c .plan ≡ p) × (length (c .members) ≡ n)
-accepted-of (values c) e = (c, refl, (cc), (cc))
-accepted-of (refusal k l) e = let z : _≡_ {A = ℕ} 0 1 = cc in absurd (omega arith)
+before-at : (l : List Member) (j : ℕ) → j < length l → length l ≤ 1000 → idBeforeAt (arrayOf l) j ≡ idBefore l j
+before-at l zero h few = refl
+before-at l (suc j) h few = ap (λ (m : Member). m .id) (array-member l j (omega arith) few)
 
-module _ (c : Case) (rows : List (List ℕ)) (members : List ℕ) (holds : Holds c rows members) where
-  before-at : (j : ℕ) → j < length (c .members) → idBeforeAt members j ≡ idBefore (c .members) j
-  before-at zero h = refl
-  before-at (suc j) h = ap (λ (m : Member). m .id) (holds .member j (omega arith))
+arrays : (c : Case) → AcceptedCase c → AcceptedArrays (c .plan) (length (c .members)) (c .rows) (arrayOf (c .members))
+arrays c a =
+    record {
+      plan = a .plan;
+      few = a .few;
+      member = λ j h. rw (before-at (c .members) j h (a .few), array-member (c .members) j h (a .few)) (a .member j h);
+    }
 
-  files : AcceptedCase c → Filed (c .plan) (length (c .members)) rows members
-  files a =
-      record {
-        plan = rw (holds .table) (a .plan);
-        few = a .few;
-        member = λ j h. rw (holds .table, before-at j h, holds .member j h) (a .member j h);
-      }
+accepted-of : (o : Outcome Case) {p : Plan} {n : ℕ} {rows : List (List ℕ)} {members : List ℕ} (oldRows : List (List ℕ)) (oldMembers : List ℕ) → ((c : Case) → o ≡ values c → AcceptedCase c) → Accepted p n ≡ accepting o → rows ≡ rowsAfter o oldRows → members ≡ membersAfter o oldMembers → AcceptedArrays p n rows members
+accepted-of (values c) {p} {n} oldRows oldMembers is answer table array =
+    let terms : p ≡ c .plan = cc in
+    let count : n ≡ length (c .members) = cc in
+    rw (terms, count, table, array) (arrays c (is c refl))
+accepted-of (refusal k l) oldRows oldMembers is answer table array =
+    let z : _≡_ {A = ℕ} 0 1 = cc in absurd (omega arith)
 
 -- where accept_case answers Accepted p n, the plan is accepted with the rows of the array, and each of the n members after the one before it
-pub accepted-files : (s : List ℕ) {p : Plan} {n : ℕ} (rows : List (List ℕ)) (members : List ℕ) → Accepted p n ≡ accepting (acceptingOf s) → ((c : Case) → acceptingOf s ≡ values c → Holds c rows members) → Filed p n rows members
-accepted-files s {p} {n} rows members answer holds =
-    let a = accepted-of (acceptingOf s) answer in
-    let filed = files (a .0) rows members (holds (a .0) (a .1)) (accepted-case s (a .0) (a .1)) in
-    subst (λ (k : ℕ). Filed p k rows members) (a .3) (subst (λ (q : Plan). Filed q (length (a .0 .members)) rows members) (a .2) filed)
+pub accepted-arrays : (s : List ℕ) {p : Plan} {n : ℕ} {rows : List (List ℕ)} {members : List ℕ} (oldRows : List (List ℕ)) (oldMembers : List ℕ) → Accepted p n ≡ accepting (acceptingOf s) → rows ≡ rowsAfter (acceptingOf s) oldRows → members ≡ membersAfter (acceptingOf s) oldMembers → AcceptedArrays p n rows members
+accepted-arrays s oldRows oldMembers = accepted-of (acceptingOf s) oldRows oldMembers (accepted-case s)

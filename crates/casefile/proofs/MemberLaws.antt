@@ -1,6 +1,6 @@
 -- The lines after the rows, one at a time. `e` is where the code found byte 10, `r` what it read of the line, `x` what its rules say, and `rest` what the code goes on with.
-use Prim.Native.Nat.{ℕ, zero, suc, _+_, _-_, _*_, _≤_, _<_}
-use mathlib.Core.Path.{_≡_, refl, sym, ap, _∙_}
+use Prim.Native.Nat.{ℕ, zero, suc, _+_, _-_, _≤_, _<_}
+use mathlib.Core.Path.{_≡_, refl, sym, _∙_}
 use mathlib.Core.List.{List, [], _∷_}
 use mathlib.Core.Bool.{Bool, true, false, cond}
 use lib.ListN.{length, drop}
@@ -21,9 +21,9 @@ use Rattle.casefile.specs.Split.{seekOf, hasOf, uptoOf, pastOf, startsOf
 use Rattle.casefile.specs.Numbers.{wholeOf}
 use Rattle.casefile.specs.Outcome.{Outcome, refusal, prepend, settled}
 use Rattle.casefile.specs.Members.{endMade, entryOf, endOf, afterEntry, membersOf}
-use Rattle.casefile.specs.Stored.{membersIn, storedAt, counted, filed}
+use Rattle.casefile.specs.Stored.{ended}
 use Rattle.casefile.proofs.Laws.{has-none, has-line}
-use Rattle.casefile.proofs.StoredLaws.{end-filed, filed-next}
+use Rattle.casefile.proofs.StoredLaws.{Filled, Answers, filled-end}
 
 -- with no room left no line is a member
 no-member : (a b : Bool) (w : Number) (e : Entry) {m : Member} → e ≡ OfMember m → e ≡ cond a Surplus (cond b (endMade w) Neither) → _≡_ {A = ℕ} 0 1
@@ -64,12 +64,11 @@ module _ (ranges : Bool) (p : Plan) (rows : List (List ℕ)) where
           let t : entryOf (eqb n 0) (uptoOf 10 s) ≡ Surplus = cc in
           members-on n count before s .1 ∙ simp (has-line s found whole, t)
 
-      -- the end, with the members that the array holds
-      pub members-end : (a : List ℕ) {v : ℕ} {rest : List ℕ} {o : Outcome (List Member)} {q : Count} → r ≡ OfEnd v → rest ≡ pastOf 10 s → q ≡ counted count (endOf v count rest) → o ≡ prepend (membersIn a count) (membersOf ranges p rows n count before s) → o ≡ filed q a
-      members-end a {v} {rest} is on answer inv =
+      -- the end, after the members that the array holds
+      pub members-end : {o : Outcome (List Member)} {a : List ℕ} {v : ℕ} {rest : List ℕ} {q : Count} → Filled o a count (membersOf ranges p rows n count before s) → r ≡ OfEnd v → rest ≡ pastOf 10 s → q ≡ ended count (endOf v count rest) → Answers o q a
+      members-end {v = v} {rest} f is on answer =
           let t : entryOf (eqb n 0) (uptoOf 10 s) ≡ OfEnd v = cc in
-          let ends : membersOf ranges p rows n count before s ≡ endOf v count rest = rw on (members-on n count before s .1 ∙ simp (has-line s found whole, t)) in
-          inv ∙ ap (prepend (membersIn a count)) ends ∙ end-filed a (eqb v count) (eqb (length rest) 0) count ∙ rw (← answer)
+          filled-end f (eqb v count) (eqb (length rest) 0) (rw on (members-on n count before s .1 ∙ simp (has-line s found whole, t))) answer
 
       module _ {m : Member} {x : ℕ} (is : r ≡ OfMember m) (rule : x ≡ settled ranges (memberRefusal p rows before m)) where
         pub members-refused : (x ≡ 0 → ⊥) → membersOf ranges p rows n count before s ≡ refusal x (count + 115)
@@ -81,8 +80,3 @@ module _ (ranges : Bool) (p : Plan) (rows : List (List ℕ)) where
         members-go h on =
             let t : entryOf (eqb n 0) (uptoOf 10 s) ≡ OfMember m = cc in
             rw on (members-more n count before s (room n l read is) ∙ simp (has-line s found whole, t, sym rule, eq-eqb x 0 h))
-
-        -- the member in its place of the array, and the lines that are left
-        pub members-stored : (a : List ℕ) {o : Outcome (List Member)} {rest a' : List ℕ} → count * 4 + 4 ≤ length a → o ≡ prepend (membersIn a count) (membersOf ranges p rows n count before s) → x ≡ 0 → rest ≡ pastOf 10 s → a' ≡ storedAt a count m → o ≡ prepend (membersIn a' (count + 1)) (membersOf ranges p rows (n - 1) (count + 1) (m .id) rest)
-        members-stored a {o} {rest} fits inv h on put =
-            rw put (filed-next a count m fits (membersOf ranges p rows (n - 1) (count + 1) (m .id) rest) inv (members-go h on))

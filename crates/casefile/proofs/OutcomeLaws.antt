@@ -38,6 +38,9 @@ never e = let z : _≡_ {A = ℕ} 0 1 = cc in omega arith
 pub no-values : {A B : Type 0} {n l : ℕ} {a : A} → refusal n l ≡ values a → B
 no-values e = absurd (never e)
 
+pub values-one : {A : Type 0} {a b : A} → values a ≡ values b → a ≡ b
+values-one e = cc
+
 pub passed : {A : Type 0} (r l : ℕ) (o : Outcome A) {a : A} → passing r l o ≡ values a → (r ≡ 0) × (o ≡ values a)
 passed zero l o e = (refl, e)
 passed (suc r) l o e = no-values (rw (eqb·suc-zero r) at e)

@@ -1,13 +1,10 @@
 -- The parts of a case file, one after the other. `h`, `q` and `a` are what the code answers of the heading, the rows and the members, with the two arrays.
 use Prim.Native.Nat.{ℕ, zero, suc, _+_, _≤_, _<_}
 use mathlib.Core.Path.{_≡_, refl, sym, ap, subst, _∙_}
-use mathlib.Core.List.{List, [], _∷_, _++_}
+use mathlib.Core.List.{List, [], _∷_}
 use mathlib.Core.Bool.{Bool, true, false, cond}
-use mathlib.Core.Logic.{⊎-elim}
-use lib.ListN.{length, getD, length-append, List·getD-append}
-use lib.Seq.{getD-append-seam}
+use lib.ListN.{length}
 use native.Mathlib.Omega.{arith}
-use native.Mathlib.Nat.{eq-or-lt-of-le}
 use borrow.Author.Tests.{lt-ltb, le-ltb}
 use Rattle.plan.specs.declared.Plan.{Plan}
 use Rattle.plan.specs.declared.Member.{Member}
@@ -26,9 +23,10 @@ use Rattle.casefile.specs.Outcome.{Outcome, values, refusal, prepend}
 use Rattle.casefile.specs.Heading.{headOf, planOf}
 use Rattle.casefile.specs.Rows.{rowsOf}
 use Rattle.casefile.specs.Members.{entryOf, afterEntry, membersOf}
-use Rattle.casefile.specs.Case.{Case, walkOf, nobody}
-use Rattle.casefile.specs.Stored.{headed, tabled, narrowOf, each, in32, memberAt, membersIn, filed, walked, Holds}
-use Rattle.casefile.proofs.OutcomeLaws.{no-values}
+use Rattle.casefile.specs.Case.{Case, walkOf}
+use Rattle.casefile.specs.Stored.{headed, tabled, narrowOf, each, in32, counted, walked, Holds}
+use Rattle.casefile.proofs.OutcomeLaws.{no-values, values-one}
+use Rattle.casefile.proofs.StoredLaws.{Answers}
 use Rattle.casefile.proofs.AcceptedLaws.{rows-narrow, refuses-none}
 
 -- ---- without ranges the members do not hang on the plan and its rows
@@ -50,23 +48,6 @@ members-same : (ranges : Bool) (p : Plan) (rows table : List (List ℕ)) (s : Li
 members-same true p rows table s e = rw (e refl)
 members-same false p rows table s e = members-alike p p rows table 1000 0 0 s
 
--- ---- the members that an array holds
-pub length-in : (a : List ℕ) (n : ℕ) → length (membersIn a n) ≡ n
-unfolding membersIn
-length-in a zero = refl
-length-in a (suc n) = rw (length-append (membersIn a n) (memberAt a n ∷ []), length-in a n) (omega arith)
-
-pub member-in : (a : List ℕ) (n j : ℕ) → j < n → memberAt a j ≡ getD (membersIn a n) j nobody
-unfolding membersIn
-member-in a zero j h = absurd (omega arith)
-member-in a (suc n) j h =
-    let before = membersIn a n in
-    let long = length-in a n in
-    ⊎-elim
-    (λ (e : j ≡ n). rw e (sym (subst (λ (k : ℕ). getD (before ++ (memberAt a n ∷ [])) k nobody ≡ memberAt a n) long (getD-append-seam before (memberAt a n) [] nobody))))
-    (λ (l : j < n). member-in a n j l ∙ sym (List·getD-append before (memberAt a n ∷ []) nobody j (omega arith)))
-    (eq-or-lt-of-le (omega arith))
-
 -- ---- what an answer says of the outcome that it stands for
 head-refused : (o : Outcome (List ℕ)) {n l : ℕ} → HeadingRefused n l ≡ headed o → o ≡ refusal n l
 head-refused (values t) e = let z : _≡_ {A = ℕ} 0 1 = cc in absurd (omega arith)
@@ -84,6 +65,14 @@ rows-full : (o : Outcome (List (List ℕ))) {table : List (List ℕ)} → in32 o
 rows-full (values t) e = (t, refl, (cc))
 rows-full (refusal n l) e = no-values e
 
+count-refused : (o : Outcome (List Member)) {n l : ℕ} → CountRefused n l ≡ counted o → o ≡ refusal n l
+count-refused (values t) e = let z : _≡_ {A = ℕ} 0 1 = cc in absurd (omega arith)
+count-refused (refusal n l) e = cc
+
+count-members : (o : Outcome (List Member)) {n : ℕ} → Members n ≡ counted o → (l : List Member) × (o ≡ values l) × (n ≡ length l)
+count-members (values l) e = (l, refl, (cc))
+count-members (refusal n l) e = let z : _≡_ {A = ℕ} 0 1 = cc in absurd (omega arith)
+
 -- ranges that are settled
 off : {A : Type 0} → false ≡ true → A
 off e = let z : _≡_ {A = ℕ} 0 1 = cc in absurd (omega arith)
@@ -99,9 +88,6 @@ plan-exact false u s t rows on head lines = off on
 walk-exact : (ranges : Bool) (s : List ℕ) (c : Case) → ranges ≡ true → walkOf ranges s ≡ values c → walkOf true s ≡ values c
 walk-exact true s c on e = e
 walk-exact false s c on e = off on
-
-values-one : {A : Type 0} {a b : A} → values a ≡ values b → a ≡ b
-values-one e = cc
 
 -- a refused walk holds nothing
 pub refused-holds : (ranges : Bool) (s : List ℕ) {n l : ℕ} → walkOf ranges s ≡ refusal n l → (rows : List (List ℕ)) (members : List ℕ) → ranges ≡ true → (c : Case) → walkOf true s ≡ values c → Holds c rows members
@@ -141,30 +127,36 @@ module _ (ranges : Bool) (s : List ℕ) {h : Heading} (short : length s ≤ 6553
           let accepted = plan-exact ranges (linesPast 8 s) s (terms .0) (rows .0) on (terms .1) (rows .1) in
           (λ i. planRefusal (terms .2 i) (sym (exact on) i)) ∙ accepted
 
-      module _ {v : List ℕ} (a : Count) (members : List ℕ) (past₂ : v ≡ linesPast 114 s) (file : membersOf ranges p table 1000 0 0 v ≡ filed a members) where
-        outcome : membersOf ranges (planOf (terms .0)) (rows .0) 1000 0 0 (linesPast 114 s) ≡ filed a members
+      module _ {v : List ℕ} {a : Count} {members : List ℕ} (past₂ : v ≡ linesPast 114 s) (answer : Answers (membersOf ranges p table 1000 0 0 v) a members) where
+        outcome : membersOf ranges p table 1000 0 0 v ≡ membersOf ranges (planOf (terms .0)) (rows .0) 1000 0 0 (linesPast 114 s)
         outcome =
-            (λ i. membersOf ranges (sym (terms .2) i) (rows .0) 1000 0 0 (sym past₂ i)) ∙ members-same ranges p (rows .0) table v exact ∙ file
+            sym (members-same ranges p (rows .0) table v exact) ∙ (λ i. membersOf ranges (terms .2 i) (rows .0) 1000 0 0 (past₂ i))
+
+        answered : Answers (membersOf ranges (planOf (terms .0)) (rows .0) 1000 0 0 (linesPast 114 s)) a members
+        answered = subst (λ (o : Outcome (List Member)). Answers o a members) outcome answer
 
         pub walk-members : {n l : ℕ} → a ≡ CountRefused n l → walkOf ranges s ≡ refusal n l
         unfolding walkOf
-        walk-members e = simp (le-ltb _ _ short, terms .1, rows .1, rw e at outcome)
+        walk-members e = simp (le-ltb _ _ short, terms .1, rows .1, count-refused (membersOf ranges (planOf (terms .0)) (rows .0) 1000 0 0 (linesPast 114 s)) (sym e ∙ answered .0))
 
         module _ {n : ℕ} (ended : a ≡ Members n) where
+          found : (l : List Member) × (membersOf ranges (planOf (terms .0)) (rows .0) 1000 0 0 (linesPast 114 s) ≡ values l) × (n ≡ length l)
+          found = count-members (membersOf ranges (planOf (terms .0)) (rows .0) 1000 0 0 (linesPast 114 s)) (sym ended ∙ answered .0)
+
           case : Case
-          case = record { plan = planOf (terms .0); rows = rows .0; members = membersIn members n }
+          case = record { plan = planOf (terms .0); rows = rows .0; members = found .0 }
 
           whole : walkOf ranges s ≡ values case
           unfolding walkOf case
-          whole = simp (le-ltb _ _ short, terms .1, rows .1, rw ended at outcome)
+          whole = simp (le-ltb _ _ short, terms .1, rows .1, found .1)
 
           pub walk-whole : Whole p n ≡ walked (walkOf ranges s)
           unfolding case
-          walk-whole = (λ i. Whole (terms .2 i) (sym (length-in members n) i)) ∙ ap walked (sym whole)
+          walk-whole = (λ i. Whole (terms .2 i) (found .2 i)) ∙ ap walked (sym whole)
 
           pub walk-holds : ranges ≡ true → (c : Case) → walkOf true s ≡ values c → Holds c table members
           unfolding case
           walk-holds on c e =
               let same : case ≡ c = values-one (sym (walk-exact ranges s case on whole) ∙ e) in
               subst (λ (c : Case). Holds c table members) same
-              (record { table = sym (exact on); member = λ j h. member-in members n j (rw (length-in members n) at h) })
+              (record { table = sym (exact on); array = answered .1 (found .0) (found .1) })

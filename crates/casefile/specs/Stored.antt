@@ -1,8 +1,9 @@
 -- What the code's answers stand for, with the arrays that go with them: an enum holds no array.
 use Prim.Native.Nat.{ℕ, zero, suc, _+_, _*_, _≤_, _<_, min}
 use mathlib.Core.Path.{_≡_}
-use mathlib.Core.List.{List, [], _∷_, _++_}
-use lib.ListN.{length, getD, set}
+use mathlib.Core.List.{List, [], _∷_}
+use lib.ListN.{length, getD, set, replicate}
+use lib.Seq.{sets}
 use Rattle.plan.specs.declared.Plan.{Plan}
 use Rattle.plan.specs.declared.Member.{Member}
 use Rattle.plan.specs.Acceptance.{planRefusal, memberRefusal}
@@ -16,7 +17,7 @@ use Rattle.casefile.specs.declared.Walk.{Walk}
 use Rattle.casefile.specs.declared.Walk.the-variants.{Whole, Refused as WalkRefused}
 use Rattle.casefile.specs.Outcome.{Outcome, values, refusal}
 use Rattle.casefile.specs.Heading.{planOf}
-use Rattle.casefile.specs.Case.{Case, nobody}
+use Rattle.casefile.specs.Case.{Case}
 
 -- the heading's answer
 abbrev pub headed : Outcome (List ℕ) → Heading
@@ -40,48 +41,61 @@ abbrev pub in32 : Outcome (List (List ℕ)) → Outcome (List (List ℕ))
 in32 (values t) = values (each (each narrowOf) t)
 in32 (refusal number line) = refusal number line
 
+-- "member=id,entry,age,salary": the words of some members, four of each
+unfoldable pub words : List Member → List ℕ
+words [] = []
+words (m ∷ l) = m .id ∷ m .entry ∷ m .age ∷ m .salary ∷ words l
+
+-- "0 to 1,000 lines member=": the array of the members, their words from place 0 on and zeros after
+unfoldable pub arrayOf : List Member → List ℕ
+arrayOf l = sets (replicate 4000 0) 0 (words l)
+
 -- member j of an array: id, entry, age and salary at places 4j to 4j + 3
 abbrev pub memberAt : List ℕ → ℕ → Member
 memberAt a j =
     record { id = getD a (j * 4) 0; entry = getD a (j * 4 + 1) 0; age = getD a (j * 4 + 2) 0; salary = getD a (j * 4 + 3) 0 }
-
--- its first n members
-unfoldable pub membersIn : List ℕ → ℕ → List Member
-membersIn a zero = []
-membersIn a (suc n) = membersIn a n ++ (memberAt a n ∷ [])
 
 -- the array with the member j
 unfoldable pub storedAt : List ℕ → ℕ → Member → List ℕ
 storedAt a j m =
     set (set (set (set a (j * 4) (m .id)) (j * 4 + 1) (m .entry)) (j * 4 + 2) (m .age)) (j * 4 + 3) (m .salary)
 
--- the members' answer, with the array that holds as many
-abbrev pub filed : Count → List ℕ → Outcome (List Member)
-filed (Members n) a = values (membersIn a n)
-filed (CountRefused number line) a = refusal number line
+-- the members' answer: how many there are
+abbrev pub counted : Outcome (List Member) → Count
+counted (values l) = Members (length l)
+counted (refusal number line) = CountRefused number line
 
 -- the end line's answer after `count` members
-abbrev pub counted : ℕ → Outcome (List Member) → Count
-counted count (values l) = Members count
-counted count (refusal number line) = CountRefused number line
+abbrev pub ended : ℕ → Outcome (List Member) → Count
+ended count (values l) = Members count
+ended count (refusal number line) = CountRefused number line
 
 -- the walk's answer
 abbrev pub walked : Outcome Case → Walk
 walked (values c) = Whole (c .plan) (length (c .members))
 walked (refusal number line) = WalkRefused number line
 
--- the arrays of an accepted case: its table, and each of its members in its place
+-- the arrays of an accepted case
 pub record Holds (c : Case) (rows : List (List ℕ)) (members : List ℕ) : Type 0 where
   pub table : rows ≡ c .rows
-  pub member : (j : ℕ) → j < length (c .members) → memberAt members j ≡ getD (c .members) j nobody
+  pub array : members ≡ arrayOf (c .members)
+
+-- what the caller's arrays hold after accepting: the case where it is accepted, and else what they held before
+abbrev pub rowsAfter : Outcome Case → List (List ℕ) → List (List ℕ)
+rowsAfter (values c) old = c .rows
+rowsAfter (refusal number line) old = old
+
+abbrev pub membersAfter : Outcome Case → List ℕ → List ℕ
+membersAfter (values c) old = arrayOf (c .members)
+membersAfter (refusal number line) old = old
 
 -- the id of the member before member j of an array, 0 for the first
 abbrev pub idBeforeAt : List ℕ → ℕ → ℕ
 idBeforeAt a zero = 0
 idBeforeAt a (suc j) = (memberAt a j) .id
 
--- the same as what the rules say of the two arrays: what one who values the plan starts from
-pub record Filed (p : Plan) (n : ℕ) (rows : List (List ℕ)) (members : List ℕ) : Type 0 where
+-- what the rules say of the two arrays of an accepted case: what one who values the plan starts from
+pub record AcceptedArrays (p : Plan) (n : ℕ) (rows : List (List ℕ)) (members : List ℕ) : Type 0 where
   pub plan : planRefusal p rows ≡ 0
   pub few : n ≤ 1000
   pub member : (j : ℕ) → j < n → memberRefusal p rows (idBeforeAt members j) (memberAt members j) ≡ 0

@@ -20,7 +20,7 @@ ghost use mathlib.Core.Path.{_≡_};
 ghost use mathlib.Core.Bool.{true};
 ghost use Rattle.casefile.specs.Outcome.{values};
 ghost use Rattle.casefile.specs.Case.{Case, walkOf, readingOf, acceptingOf, accepting};
-ghost use Rattle.casefile.specs.Stored.{walked, Holds};
+ghost use Rattle.casefile.specs.Stored.{walked, Holds, rowsAfter, membersAfter};
 
 // What the walk gives: the plan and the count of members, or the first refusal's number and line.
 enum Walk {
@@ -77,15 +77,22 @@ pub enum Accepting {
     Refused(u64, u64),
 }
 
-// Accepts a case file: its form and its ranges. Of an accepted case `rows` holds the table, and `members` the id, entry,
-// age and salary of member j at places 4j to 4j + 3. What the two arrays hold after a refusal, and `members` past the
-// last member, is left open.
+// Accepts a case file: its form and its ranges. An accepted case is copied out, its table to `rows` and its members to
+// `members`: the id, entry, age and salary of member j at places 4j to 4j + 3, and zeros past the last. A refusal leaves
+// both arrays as they were.
 pub fn accept_case(case: &[u8], rows: &mut [[u32; 4]; 106], members: &mut [u64; 4000]) -> Accepting
     ensures { λ r. ⌜ r ≡ accepting (acceptingOf (now (case .entry))) ⌝ }
-    ensures { λ r. ⌜ ((c : Case) → acceptingOf (now (case .entry)) ≡ values c → Holds c (now (rows .exit)) (now (members .exit))) ⌝ }
+    ensures { λ _. ⌜ now (rows .exit) ≡ rowsAfter (acceptingOf (now (case .entry))) (now (rows .entry)) ⌝ }
+    ensures { λ _. ⌜ now (members .exit) ≡ membersAfter (acceptingOf (now (case .entry))) (now (members .entry)) ⌝ }
 {
-    match walk_lines(case, true, rows, members) {
-        Walk::Whole(p, n) => Accepting::Accepted(p, n),
+    let mut table = [[0u32; 4]; 106];
+    let mut array = [0u64; 4000];
+    match walk_lines(case, true, &mut table, &mut array) {
+        Walk::Whole(p, n) => {
+            *rows = table;
+            *members = array;
+            Accepting::Accepted(p, n)
+        }
         Walk::Refused(number, line) => Accepting::Refused(number, line),
     }
 }

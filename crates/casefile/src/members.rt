@@ -14,11 +14,12 @@ use plan::Plan;
 use plan::acceptance::judge_member;
 ghost use mathlib.Core.Path.{_≡_};
 ghost use mathlib.Core.Bool.{true};
+ghost use mathlib.Core.List.{List};
 ghost use Prim.Native.Nat.{_<_, _≤_};
 ghost use Rattle.plan.specs.Acceptance.{planRefusal, memberRefusal};
-ghost use Rattle.casefile.specs.Outcome.{settled};
+ghost use Rattle.casefile.specs.Outcome.{values, settled};
 ghost use Rattle.casefile.specs.Members.{memberOf, entryOf, endOf, membersOf};
-ghost use Rattle.casefile.specs.Stored.{storedAt, counted, filed};
+ghost use Rattle.casefile.specs.Stored.{arrayOf, storedAt, counted, ended};
 
 // What a line after the rows holds.
 pub enum Entry {
@@ -99,7 +100,7 @@ pub enum Count {
 // The end line after `count` members, with what follows it.
 fn ending(n: u64, count: u64, rest: &[u8]) -> Count
     requires { ⌜ count ≤ 1000 ⌝ }
-    ensures { λ r. ⌜ r ≡ counted count (endOf n count (now (rest .entry))) ⌝ }
+    ensures { λ r. ⌜ r ≡ ended count (endOf n count (now (rest .entry))) ⌝ }
 {
     if n == count {
         if rest.len() == 0 {
@@ -121,7 +122,8 @@ pub fn member_lines(
     members: &mut [u64; 4000],
 ) -> Count
     requires { ⌜ (ranges ≡ true → planRefusal p rows ≡ 0) ⌝ }
-    ensures { λ r. ⌜ membersOf ranges p rows 1000 0 0 (now (s .entry)) ≡ filed r (now (members .exit)) ⌝ }
+    ensures { λ r. ⌜ r ≡ counted (membersOf ranges p rows 1000 0 0 (now (s .entry))) ⌝ }
+    ensures { λ _. ⌜ ((l : List Member) → membersOf ranges p rows 1000 0 0 (now (s .entry)) ≡ values l → now (members .exit) ≡ arrayOf l) ⌝ }
 {
     // Nothing that the caller left there is taken for a member.
     *members = [0u64; 4000];

@@ -18,11 +18,13 @@ enum-known-number c = search needs
 
 returns : tie.Need-returns
 unfolding acceptingOf
-returns c = (whole-accepted (walkOf true (c .before .before .before .before .before .before .before .args .case .now)) (c .before .before .before .walk-lines .ensures .0) (c .before .p .given .1), c .before .before .before .walk-lines .ensures .1 refl)
+returns c =
+    let given = c .before .before .before .before .before .before .before .args in
+    whole-accepted (walkOf true (given .case .now)) (given .rows .now) (given .members .now) (c .before .before .before .walk-lines .ensures .0) (c .before .p .given .1) (c .before .before .before .walk-lines .ensures .1 refl)
 
 returns-2 : tie.Need-returns-2
 unfolding acceptingOf
-returns-2 c = (refused-accepting (walkOf true (c .before .before .before .before .before .before .before .args .case .now)) (c .before .before .before .walk-lines .ensures .0) (c .before .number .given .1), c .before .before .before .walk-lines .ensures .1 refl)
+returns-2 c = refused-accepting (walkOf true (c .before .before .before .before .before .before .before .args .case .now)) (c .before .before .before .walk-lines .ensures .0) (c .before .number .given .1)
 
 pub accept-case-spec : {M : Type 1} → statement M
 accept-case-spec =

@@ -48,11 +48,11 @@ returns-2 c =
     let full = c .before .before .before .before .before .before .before .enum-told .given .1 in
     let past = c .before .before .before .before .before .before .lines-past2 .ensures in
     let file = c .before .before .before .member-lines .ensures in
-    (walk-whole _ _ (c .before .before .before .before .before .before .before .before .before .before .before .before .before .before .before .before .if1 .left) (c .before .before .before .before .before .before .before .before .before .before .before .before .before .before .before .head-lines .ensures) _ _ (c .before .before .before .before .before .before .before .before .before .before .before .before .before .p .given .1) (c .before .before .before .before .before .before .before .before .before .before .before .lines-past .ensures) (c .before .before .before .before .before .before .before .before .before .row-lines .ensures) full _ _ past file n, walk-holds _ _ (c .before .before .before .before .before .before .before .before .before .before .before .before .before .before .before .before .if1 .left) (c .before .before .before .before .before .before .before .before .before .before .before .before .before .before .before .head-lines .ensures) _ _ (c .before .before .before .before .before .before .before .before .before .before .before .before .before .p .given .1) (c .before .before .before .before .before .before .before .before .before .before .before .lines-past .ensures) (c .before .before .before .before .before .before .before .before .before .row-lines .ensures) full _ _ past file n)
+    (walk-whole _ _ (c .before .before .before .before .before .before .before .before .before .before .before .before .before .before .before .before .if1 .left) (c .before .before .before .before .before .before .before .before .before .before .before .before .before .before .before .head-lines .ensures) _ _ (c .before .before .before .before .before .before .before .before .before .before .before .before .before .p .given .1) (c .before .before .before .before .before .before .before .before .before .before .before .lines-past .ensures) (c .before .before .before .before .before .before .before .before .before .row-lines .ensures) full past file n, walk-holds _ _ (c .before .before .before .before .before .before .before .before .before .before .before .before .before .before .before .before .if1 .left) (c .before .before .before .before .before .before .before .before .before .before .before .before .before .before .before .head-lines .ensures) _ _ (c .before .before .before .before .before .before .before .before .before .before .before .before .before .p .given .1) (c .before .before .before .before .before .before .before .before .before .before .before .lines-past .ensures) (c .before .before .before .before .before .before .before .before .before .row-lines .ensures) full past file n)
 
 returns-3 : tie.Need-returns-3
 returns-3 c =
-    let e = walk-members _ _ (c .before .before .before .before .before .before .before .before .before .before .before .before .before .before .before .before .if1 .left) (c .before .before .before .before .before .before .before .before .before .before .before .before .before .before .before .head-lines .ensures) _ _ (c .before .before .before .before .before .before .before .before .before .before .before .before .before .p .given .1) (c .before .before .before .before .before .before .before .before .before .before .before .lines-past .ensures) (c .before .before .before .before .before .before .before .before .before .row-lines .ensures) (c .before .before .before .before .before .before .before .enum-told .given .1) _ _ (c .before .before .before .before .before .before .lines-past2 .ensures) (c .before .before .before .member-lines .ensures) (c .before .number .given .1) in
+    let e = walk-members _ _ (c .before .before .before .before .before .before .before .before .before .before .before .before .before .before .before .before .if1 .left) (c .before .before .before .before .before .before .before .before .before .before .before .before .before .before .before .head-lines .ensures) _ _ (c .before .before .before .before .before .before .before .before .before .before .before .before .before .p .given .1) (c .before .before .before .before .before .before .before .before .before .before .before .lines-past .ensures) (c .before .before .before .before .before .before .before .before .before .row-lines .ensures) (c .before .before .before .before .before .before .before .enum-told .given .1) (c .before .before .before .before .before .before .lines-past2 .ensures) (c .before .before .before .member-lines .ensures) (c .before .number .given .1) in
     (ap walked (sym e), refused-holds _ _ e _ _)
 
 returns-4 : tie.Need-returns-4

@@ -1,28 +1,27 @@
 -- `casefile::members::member_lines` meets its contract.
 use Prim.Native.Nat.{_+_}
-use mathlib.Core.Path.{_≡_, ap, _∙_}
-use lib.ListN.{length}
+use mathlib.Core.Path.{_≡_, refl}
+use mathlib.Core.List.{[]}
 use native.Mathlib.Omega.{arith}
 use borrow.Author.Needs.{needs}
-use Rattle.casefile.specs.Outcome.{prepend}
 use Rattle.casefile.specs.Members.{membersOf}
-use Rattle.casefile.specs.Stored.{membersIn}
-use Rattle.casefile.proofs.OutcomeLaws.{prepend-nil, refused-after}
-use Rattle.casefile.proofs.StoredLaws.{length-stored}
-use Rattle.casefile.proofs.MemberLaws.{room, members-cut, members-neither, members-surplus, members-end, members-refused, members-stored}
+use Rattle.casefile.specs.Stored.{words, arrayOf}
+use Rattle.casefile.proofs.OutcomeLaws.{prepend-nil}
+use Rattle.casefile.proofs.StoredLaws.{Filled, filled-next, filled-refused}
+use Rattle.casefile.proofs.MemberLaws.{room, members-cut, members-neither, members-surplus, members-end, members-refused, members-go}
 use Rattle.casefile.proofs.members.member_lines.Statement.{statement}
 use Rattle.casefile.proofs.members.member_lines.Tie as tie
 
 abbrev Inv-loop : tie.InvT-loop
 Inv-loop s ranges p rows members₀ rest₀ left₀ count₀ before₀ members rest left count before =
-    (left + count ≡ 1000) × (length members ≡ 4000) × (membersOf ranges p rows 1000 0 0 s ≡ prepend (membersIn members count) (membersOf ranges p rows left count before rest))
+    (left + count ≡ 1000) × Filled (membersOf ranges p rows 1000 0 0 s) members count (membersOf ranges p rows left count before rest)
 
 abbrev μ-loop : tie.MeasureT-loop
 μ-loop s ranges p rows members₀ rest₀ left₀ count₀ before₀ members rest left count before = left
 
 loop-holds : tie.Need-loop-holds Inv-loop μ-loop
-unfolding membersIn
-loop-holds c = (search needs, search needs, prepend-nil _)
+unfolding words arrayOf
+loop-holds c = (search needs, record { members = []; many = refl; array = refl; outcome = prepend-nil _ })
 
 add-here : tie.Need-add-here Inv-loop μ-loop
 add-here c = search needs
@@ -31,7 +30,7 @@ seek-requires : tie.Need-seek-requires Inv-loop μ-loop
 seek-requires c κs = search needs
 
 returns : tie.Need-returns Inv-loop μ-loop
-returns c = refused-after _ (c .before .before .loop .inv .2) (members-cut _ _ _ _ _ _ _ (c .before .seek .ensures) (c .if1 .taken))
+returns c = filled-refused (c .before .before .loop .inv .1) (members-cut _ _ _ _ _ _ _ (c .before .seek .ensures) (c .if1 .taken))
 
 line-requires : tie.Need-line-requires Inv-loop μ-loop
 line-requires c κs = search needs
@@ -46,7 +45,7 @@ member-refusal-requires : tie.Need-member-refusal-requires Inv-loop μ-loop
 member-refusal-requires c κs = c .before .before .before .before .before .before .before .before .before .before .pre
 
 returns-2 : tie.Need-returns-2 Inv-loop μ-loop
-returns-2 c = refused-after _ (c .before .before .before .before .before .before .before .before .before .loop .inv .2) (members-refused _ _ _ _ _ _ _ (c .before .before .before .before .before .before .before .before .seek .ensures) (c .before .before .before .before .before .before .before .if1 .left) (c .before .before .before .before .before .before .line .ensures) (c .before .before .before .before .before .entry-line .ensures) (c .before .before .before .m .given .1) (c .before .member-refusal .ensures) (c .if2 .taken))
+returns-2 c = filled-refused (c .before .before .before .before .before .before .before .before .before .loop .inv .1) (members-refused _ _ _ _ _ _ _ (c .before .before .before .before .before .before .before .before .seek .ensures) (c .before .before .before .before .before .before .before .if1 .left) (c .before .before .before .before .before .before .line .ensures) (c .before .before .before .before .before .entry-line .ensures) (c .before .before .before .m .given .1) (c .before .member-refusal .ensures) (c .if2 .taken))
 
 put-requires : tie.Need-put-requires Inv-loop μ-loop
 put-requires c κs = omega (arith, room (c .before .before .before .before .before .before .before .before .before .before .loop .left) _ (c .before .before .before .before .before .before .entry-line .ensures) (c .before .before .before .before .m .given .1))
@@ -67,7 +66,7 @@ loop-again : tie.Need-loop-again Inv-loop μ-loop
 loop-again c =
     let at = c .before .before .before .before .before .before .before .before .before .before .before .before .loop in
     let space = room (at .left) _ (c .before .before .before .before .before .before .before .before .entry-line .ensures) (c .before .before .before .before .before .before .m .given .1) in
-    (omega arith, ap length (c .before .put .ensures) ∙ length-stored _ _ _ ∙ at .inv .1, members-stored _ _ _ _ _ _ _ (c .before .before .before .before .before .before .before .before .before .before .before .seek .ensures) (c .before .before .before .before .before .before .before .before .before .before .if1 .left) (c .before .before .before .before .before .before .before .before .before .line .ensures) (c .before .before .before .before .before .before .before .before .entry-line .ensures) (c .before .before .before .before .before .before .m .given .1) (c .before .before .before .before .member-refusal .ensures) (at .members) (omega arith) (at .inv .2) (c .before .before .before .if2 .left) (c .after-line .ensures) (c .before .put .ensures))
+    (omega arith, filled-next (at .inv .1) _ _ (members-go _ _ _ _ _ _ _ (c .before .before .before .before .before .before .before .before .before .before .before .seek .ensures) (c .before .before .before .before .before .before .before .before .before .before .if1 .left) (c .before .before .before .before .before .before .before .before .before .line .ensures) (c .before .before .before .before .before .before .before .before .entry-line .ensures) (c .before .before .before .before .before .before .m .given .1) (c .before .before .before .before .member-refusal .ensures) (c .before .before .before .if2 .left) (c .after-line .ensures)) (c .before .put .ensures))
 
 enum-known-n : tie.Need-enum-known-n Inv-loop μ-loop
 enum-known-n c = search needs
@@ -81,19 +80,19 @@ ending-requires c κs = search needs
 returns-3 : tie.Need-returns-3 Inv-loop μ-loop
 returns-3 c =
     let at = c .before .before .before .before .before .before .before .before .before .loop in
-    members-end _ _ _ _ _ _ _ (c .before .before .before .before .before .before .before .before .seek .ensures) (c .before .before .before .before .before .before .before .if1 .left) (c .before .before .before .before .before .before .line .ensures) (c .before .before .before .before .before .entry-line .ensures) (at .members) (c .before .before .before .n .given .1) (c .before .after-line2 .ensures) (c .ending .ensures) (at .inv .2)
+    members-end _ _ _ _ _ _ _ (c .before .before .before .before .before .before .before .before .seek .ensures) (c .before .before .before .before .before .before .before .if1 .left) (c .before .before .before .before .before .before .line .ensures) (c .before .before .before .before .before .entry-line .ensures) (at .inv .1) (c .before .before .before .n .given .1) (c .before .after-line2 .ensures) (c .ending .ensures)
 
 enum-told : tie.Need-enum-told Inv-loop μ-loop
 enum-told c = search needs
 
 returns-4 : tie.Need-returns-4 Inv-loop μ-loop
-returns-4 c = refused-after _ (c .before .before .before .before .before .before .loop .inv .2) (members-surplus _ _ _ _ _ _ _ (c .before .before .before .before .before .seek .ensures) (c .before .before .before .before .if1 .left) (c .before .before .before .line .ensures) (c .before .before .entry-line .ensures) (c .enum-told .given .1))
+returns-4 c = filled-refused (c .before .before .before .before .before .before .loop .inv .1) (members-surplus _ _ _ _ _ _ _ (c .before .before .before .before .before .seek .ensures) (c .before .before .before .before .if1 .left) (c .before .before .before .line .ensures) (c .before .before .entry-line .ensures) (c .enum-told .given .1))
 
 enum-told-2 : tie.Need-enum-told-2 Inv-loop μ-loop
 enum-told-2 c = search needs
 
 returns-5 : tie.Need-returns-5 Inv-loop μ-loop
-returns-5 c = refused-after _ (c .before .before .before .before .before .before .loop .inv .2) (members-neither _ _ _ _ _ _ _ (c .before .before .before .before .before .seek .ensures) (c .before .before .before .before .if1 .left) (c .before .before .before .line .ensures) (c .before .before .entry-line .ensures) (c .enum-told2 .given .1))
+returns-5 c = filled-refused (c .before .before .before .before .before .before .loop .inv .1) (members-neither _ _ _ _ _ _ _ (c .before .before .before .before .before .seek .ensures) (c .before .before .before .before .if1 .left) (c .before .before .before .line .ensures) (c .before .before .entry-line .ensures) (c .enum-told2 .given .1))
 
 pub member-lines-spec : {M : Type 1} → statement M
 member-lines-spec =
