@@ -4,17 +4,23 @@ use Prim.Native.Nat.{ℕ}
 use mathlib.Core.Path.{_≡_, refl}
 use mathlib.Core.Bool.{true, false}
 use mathlib.Core.List.{List, _++_}
+use Rattle.rounding.specs.Nearest.{nearest}
+use Rattle.fractions.specs.Ratio.{_over_, whole}
+use Rattle.plan.specs.declared.Plan.{Plan}
+use Rattle.plan.specs.Benefit.{formulaOf as formulaCode, exactBenefit, B}
+use Rattle.plan.specs.Acceptance.{rowRules, rises, fieldRules, benefitRules, memberRefusal}
 use Rattle.casefile.specs.declared.numbers.Number.the-variants.{Value, Malformed}
 use Rattle.casefile.specs.declared.members.Entry.the-variants.{OfMember, Surplus, Neither}
 use Rattle.casefile.specs.declared.Reading.the-variants.{Read, Refused}
+use Rattle.casefile.specs.declared.Accepting.the-variants.{Accepted, Refused as AcceptingRefused}
 use Rattle.casefile.specs.Text.{bytes}
 use Rattle.casefile.specs.Split.{hasOf, uptoOf, pastOf, sameOf, linesPast}
 use Rattle.casefile.specs.Numbers.{digitsOf, wholeOf, amountOf}
 use Rattle.casefile.specs.Fields.{threeOf, fourthOf}
-use Rattle.casefile.specs.Heading.{keyedOf, keyedAmountOf, formulaOf, methodOf, termOf, headOf}
+use Rattle.casefile.specs.Heading.{keyedOf, keyedAmountOf, formulaOf, methodOf, termOf, termRule, headOf}
 use Rattle.casefile.specs.Rows.{ratesOf, rowOf, rowsOf}
 use Rattle.casefile.specs.Members.{memberOf, entryOf, membersOf}
-use Rattle.casefile.specs.Case.{walkOf, readingOf}
+use Rattle.casefile.specs.Case.{walkOf, readingOf, acceptingOf, accepting}
 
 zero-alone : wholeOf (bytes "0") ≡ Value 0
 unfolding wholeOf digitsOf
@@ -83,3 +89,22 @@ cut-off = refl
 a-tail : readingOf (shortFile "member=7,63,64,4125.50.75\nend=1\n") ≡ Refused 20 115
 unfolding wholeOf digitsOf amountOf hasOf uptoOf pastOf linesPast sameOf keyedOf formulaOf methodOf keyedAmountOf termOf headOf threeOf fourthOf ratesOf rowOf rowsOf memberOf entryOf membersOf walkOf readingOf
 a-tail = refl
+
+-- ---- and accepted
+abbrev shortPlan : Plan
+shortPlan =
+    record { interest = 1000; retire = 65; formula = 1; unit = 10000; average = 0; method = 4; assets = 2000; years = 2 }
+
+-- "end=0 is accepted"
+accepted-alone : accepting (acceptingOf (shortFile "end=0\n")) ≡ Accepted shortPlan 0
+unfolding wholeOf digitsOf amountOf hasOf uptoOf pastOf linesPast sameOf keyedOf formulaOf methodOf keyedAmountOf termOf termRule headOf threeOf fourthOf ratesOf rowOf rowRules rowsOf memberOf entryOf membersOf walkOf acceptingOf
+accepted-alone = refl
+
+accepted-file : accepting (acceptingOf (shortFile "member=7,63,64,0.00\nend=1\n")) ≡ Accepted shortPlan 1
+unfolding wholeOf digitsOf amountOf hasOf uptoOf pastOf linesPast sameOf keyedOf formulaOf methodOf keyedAmountOf termOf termRule headOf threeOf fourthOf ratesOf rowOf rowRules rowsOf memberOf entryOf membersOf walkOf acceptingOf memberRefusal fieldRules benefitRules rises nearest _over_ whole exactBenefit B formulaCode
+accepted-file = refl
+
+-- "then line by line": an age past retirement comes before a cut in the line after it
+range-before-cut : accepting (acceptingOf (shortFile "member=7,63,66,0.00\nx")) ≡ AcceptingRefused 23 115
+unfolding wholeOf digitsOf amountOf hasOf uptoOf pastOf linesPast sameOf keyedOf formulaOf methodOf keyedAmountOf termOf termRule headOf threeOf fourthOf ratesOf rowOf rowRules rowsOf memberOf entryOf membersOf walkOf acceptingOf memberRefusal fieldRules
+range-before-cut = refl
