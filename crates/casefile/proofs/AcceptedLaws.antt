@@ -24,10 +24,11 @@ use Rattle.casefile.specs.declared.rows.RowForm.the-variants.{Rates, Wro
 use Rattle.casefile.specs.declared.members.Entry.{Entry}
 use Rattle.casefile.specs.declared.members.Entry.the-variants.{OfMember, OfEnd, Surplus, Neither}
 use Rattle.casefile.specs.Split.{hasOf, uptoOf, pastOf}
-use Rattle.casefile.specs.Outcome.{Outcome, values, refusal}
+use Rattle.casefile.specs.Outcome.{Outcome, values, refusal, settled}
 use Rattle.casefile.specs.Heading.{termOf, termRule, formulaFrom, afterTerm, headOf, planOf}
 use Rattle.casefile.specs.Rows.{rowOf, rowRule, afterRow, rowsOf}
 use Rattle.casefile.specs.Members.{entryOf, afterEntry, membersOf}
+use Rattle.casefile.specs.Case.{nobody}
 use Rattle.casefile.specs.Stored.{narrowOf, each}
 use Rattle.casefile.proofs.Laws.{and-true-left, and-true-right}
 use Rattle.casefile.proofs.OutcomeLaws.{no-values, passed, prepended}
@@ -42,70 +43,70 @@ kept true n e = refl
 kept false n e = absurd (omega arith)
 
 -- ---- the heading
-record Term (n k f : ℕ) (s t : List ℕ) : Type 0 where
-  v : ℕ
-  more : List ℕ
-  is : t ≡ v ∷ more
-  rule : termRule k f v ≡ 0
-  on : headOf true n (k + 1) (formulaFrom k f v) (pastOf 10 s) ≡ values more
+pub record Term (ranges : Bool) (n k f : ℕ) (s t : List ℕ) : Type 0 where
+  pub v : ℕ
+  pub more : List ℕ
+  pub is : t ≡ v ∷ more
+  pub rule : settled ranges (termRule k f v) ≡ 0
+  pub on : headOf ranges n (k + 1) (formulaFrom k f v) (pastOf 10 s) ≡ values more
 
-term : (n k f : ℕ) (s t : List ℕ) → headOf true (suc n) k f s ≡ values t → Term n k f s t
+pub term : (ranges : Bool) (n k f : ℕ) (s t : List ℕ) → headOf ranges (suc n) k f s ≡ values t → Term ranges n k f s t
 unfolding headOf
-term n k f s t e = go (hasOf 10 s) (termOf k (uptoOf 10 s)) e
+term ranges n k f s t e = go (hasOf 10 s) (termOf k (uptoOf 10 s)) e
   where
-    go : (b : Bool) (x : Number) → cond b (afterTerm true k f x (λ g. headOf true n (k + 1) g (pastOf 10 s))) (refusal 2 k) ≡ values t → Term n k f s t
+    go : (b : Bool) (x : Number) → cond b (afterTerm ranges k f x (λ g. headOf ranges n (k + 1) g (pastOf 10 s))) (refusal 2 k) ≡ values t → Term ranges n k f s t
     go false x h = no-values h
     go true Malformed h = no-values h
     go true (Value u) h =
-        let p = passed (termRule k f u) k _ h in
-        let q = prepended u (headOf true n (k + 1) (formulaFrom k f u) (pastOf 10 s)) (p .1) in
+        let p = passed (settled ranges (termRule k f u)) k _ h in
+        let q = prepended u (headOf ranges n (k + 1) (formulaFrom k f u) (pastOf 10 s)) (p .1) in
         record { v = u; more = q .0; is = q .1; rule = p .0; on = q .2 }
 
 pub head-kept : (s t : List ℕ) → headOf true 8 1 0 s ≡ values t → firstOf (headRules (planOf t)) ≡ 0
 unfolding headRules termRule
 head-kept s t e =
-    let a = term 7 1 0 s t e in
-    let b = term 6 2 0 _ _ (a .on) in
-    let c = term 5 3 0 _ _ (b .on) in
-    let d = term 4 4 (c .v) _ _ (c .on) in
-    let f = term 3 5 (c .v) _ _ (d .on) in
-    let g = term 2 6 (c .v) _ _ (f .on) in
-    let h = term 1 7 (c .v) _ _ (g .on) in
-    let i = term 0 8 (c .v) _ _ (h .on) in
+    let a = term true 7 1 0 s t e in
+    let b = term true 6 2 0 _ _ (a .on) in
+    let c = term true 5 3 0 _ _ (b .on) in
+    let d = term true 4 4 (c .v) _ _ (c .on) in
+    let f = term true 3 5 (c .v) _ _ (d .on) in
+    let g = term true 2 6 (c .v) _ _ (f .on) in
+    let h = term true 1 7 (c .v) _ _ (g .on) in
+    let i = term true 0 8 (c .v) _ _ (h .on) in
     rw (a .is, b .is, c .is, d .is, f .is, g .is, h .is, i .is)
     (kept-all (headRules (planOf (a .v ∷ b .v ∷ c .v ∷ d .v ∷ f .v ∷ g .v ∷ h .v ∷ i .v ∷ i .more)))
     (a .rule, (b .rule, (c .rule, (d .rule, (f .rule, (g .rule, (h .rule, (i .rule, tt)))))))))
 
 -- ---- the rows
-record Line (n age before : ℕ) (s : List ℕ) (t : List (List ℕ)) : Type 0 where
+record Line (ranges : Bool) (n age before : ℕ) (s : List ℕ) (t : List (List ℕ)) : Type 0 where
   d : ℕ
   w : ℕ
   i : ℕ
   z : ℕ
   more : List (List ℕ)
   is : t ≡ (d ∷ w ∷ i ∷ z ∷ []) ∷ more
-  rule : rowRule age before d w i z ≡ 0
-  on : rowsOf true n (age + 1) z (pastOf 10 s) ≡ values more
+  rule : settled ranges (rowRule age before d w i z) ≡ 0
+  on : rowsOf ranges n (age + 1) z (pastOf 10 s) ≡ values more
 
-line : (n age before : ℕ) (s : List ℕ) (t : List (List ℕ)) → rowsOf true (suc n) age before s ≡ values t → Line n age before s t
+line : (ranges : Bool) (n age before : ℕ) (s : List ℕ) (t : List (List ℕ)) → rowsOf ranges (suc n) age before s ≡ values t → Line ranges n age before s t
 unfolding rowsOf
-line n age before s t e = go (hasOf 10 s) (rowOf age (uptoOf 10 s)) e
+line ranges n age before s t e = go (hasOf 10 s) (rowOf age (uptoOf 10 s)) e
   where
-    go : (b : Bool) (x : RowForm) → cond b (afterRow true age before x (λ z. rowsOf true n (age + 1) z (pastOf 10 s))) (refusal 2 (age - 6)) ≡ values t → Line n age before s t
+    go : (b : Bool) (x : RowForm) → cond b (afterRow ranges age before x (λ z. rowsOf ranges n (age + 1) z (pastOf 10 s))) (refusal 2 (age - 6)) ≡ values t → Line ranges n age before s t
     go false x h = no-values h
     go true Wrong h = no-values h
     go true (Rates d w i z) h =
-        let p = passed (rowRule age before d w i z) (age - 6) _ h in
-        let q = prepended (d ∷ w ∷ i ∷ z ∷ []) (rowsOf true n (age + 1) z (pastOf 10 s)) (p .1) in
+        let p = passed (settled ranges (rowRule age before d w i z)) (age - 6) _ h in
+        let q = prepended (d ∷ w ∷ i ∷ z ∷ []) (rowsOf ranges n (age + 1) z (pastOf 10 s)) (p .1) in
         record { d = d; w = w; i = i; z = z; more = q .0; is = q .1; rule = p .0; on = q .2 }
 
 -- as many rows as lines
-pub rows-count : (n age before : ℕ) (s : List ℕ) (t : List (List ℕ)) → rowsOf true n age before s ≡ values t → length t ≡ n
+pub rows-count : (ranges : Bool) (n age before : ℕ) (s : List ℕ) (t : List (List ℕ)) → rowsOf ranges n age before s ≡ values t → length t ≡ n
 unfolding rowsOf
-rows-count zero age before s t e = let h : t ≡ [] = cc in rw h
-rows-count (suc n) age before s t e =
-    let l = line n age before s t e in
-    rw (l .is) (ap suc (rows-count n (age + 1) (l .z) (pastOf 10 s) (l .more) (l .on)))
+rows-count ranges zero age before s t e = let h : t ≡ [] = cc in rw h
+rows-count ranges (suc n) age before s t e =
+    let l = line ranges n age before s t e in
+    rw (l .is) (ap suc (rows-count ranges n (age + 1) (l .z) (pastOf 10 s) (l .more) (l .on)))
 
 -- a row that keeps the rules fits 32 bits
 row-narrow : (age before d w i z : ℕ) → rowRule age before d w i z ≡ 0 → each narrowOf (d ∷ w ∷ i ∷ z ∷ []) ≡ d ∷ w ∷ i ∷ z ∷ []
@@ -125,7 +126,7 @@ pub rows-narrow : (n age before : ℕ) (s : List ℕ) (t : List (List ℕ)) → 
 unfolding rowsOf
 rows-narrow zero age before s t e = let h : t ≡ [] = cc in rw h
 rows-narrow (suc n) age before s t e =
-    let l = line n age before s t e in
+    let l = line true n age before s t e in
     rw (l .is, row-narrow age before (l .d) (l .w) (l .i) (l .z) (l .rule), rows-narrow n (age + 1) (l .z) (pastOf 10 s) (l .more) (l .on))
 
 -- the rows from an age on, in the table that holds them all
@@ -133,7 +134,7 @@ pub rows-kept : (table : List (List ℕ)) (n age before : ℕ) (s : List ℕ) (t
 unfolding rowsRefusal
 rows-kept table zero age before s t low high at first e = refl
 rows-kept table (suc n) age before s t low high at first e =
-    let l = line n age before s t e in
+    let l = line true n age before s t e in
     let cells = l .d ∷ l .w ∷ l .i ∷ l .z ∷ [] in
     let place : age - 15 + 0 ≡ age - 15 = omega arith in
     let here : row table age ≡ cells = sym (rw place at (getD-drop (age - 15) table 0 [])) ∙ ap (λ (r : List (List ℕ)). getD r 0 []) (at ∙ l .is) in
@@ -155,6 +156,11 @@ refuses-none u s t rows head lines =
 abbrev pub Kept : Plan → List (List ℕ) → ℕ → List Member → Type 0
 Kept p rows before [] = Unit {0}
 Kept p rows before (m ∷ l) = (memberRefusal p rows before m ≡ 0) × Kept p rows (m .id) l
+
+-- the id before member j, after a first one
+abbrev pub idFrom : ℕ → List Member → ℕ → ℕ
+idFrom first l zero = first
+idFrom first l (suc j) = (getD l j nobody) .id
 
 none-left : (a b : Bool) (k j : ℕ) {l : List Member} → cond a (cond b (values []) (refusal 3 k)) (refusal 4 j) ≡ values l → l ≡ []
 none-left true true k j e = cc
@@ -181,3 +187,9 @@ module _ (p : Plan) (rows : List (List ℕ)) where
       entry (hasOf 10 s) 0 count before (pastOf 10 s) l (entryOf true (uptoOf 10 s)) (λ m. refusal 27 (count + 115)) (λ m k h. no-values h) e
   members-kept (suc n) count before s l e =
       entry (hasOf 10 s) (suc n) count before (pastOf 10 s) l (entryOf false (uptoOf 10 s)) (λ m. membersOf true p rows n (count + 1) (m .id) (pastOf 10 s)) (λ m k h. let r = members-kept n (count + 1) (m .id) (pastOf 10 s) k h in (r .0, omega arith)) e
+
+  pub kept-at : (first : ℕ) (l : List Member) → Kept p rows first l → (j : ℕ) → j < length l → memberRefusal p rows (idFrom first l j) (getD l j nobody) ≡ 0
+  kept-at first [] k j h = absurd (omega arith)
+  kept-at first (m ∷ l) k zero h = k .0
+  kept-at first (m ∷ l) k (suc zero) h = kept-at (m .id) l (k .1) zero (omega arith)
+  kept-at first (m ∷ l) k (suc (suc j)) h = kept-at (m .id) l (k .1) (suc j) (omega arith)

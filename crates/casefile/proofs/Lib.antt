@@ -7,6 +7,8 @@ pub mod RowLaws
 pub mod StoredLaws
 pub mod MemberLaws
 pub mod AcceptedLaws
+pub mod ExactLaws
+pub mod PartLaws
 pub mod WalkLaws
 pub mod Accepted
 pub mod AnswerLaws
