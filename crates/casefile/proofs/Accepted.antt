@@ -13,6 +13,7 @@ use Rattle.casefile.specs.Outcome.{Outcome, values, refusal}
 use Rattle.casefile.specs.Heading.{planOf}
 use Rattle.casefile.specs.Case.{Case, walkOf, acceptingOf, accepting, idBefore, AcceptedCase}
 use Rattle.casefile.specs.Stored.{arrayOf, idBeforeAt, rowsAfter, membersAfter, AcceptedArrays}
+use Rattle.casefile.specs.Answers.{AcceptedKeepsRules, AcceptsWhatKeepsRules, AcceptedFillsArrays}
 use Rattle.casefile.proofs.StoredLaws.{array-member}
 use Rattle.casefile.proofs.AcceptedLaws.{rows-count, refuses-none, idFrom, members-kept, kept-at}
 use Rattle.casefile.proofs.ExactLaws.{head-exact, terms-kept, rows-exact, table-kept, plan-kept, members-exact, all-members}
@@ -22,8 +23,7 @@ from-first : (l : List Member) (j : ℕ) → idFrom 0 l j ≡ idBefore l j
 from-first l zero = refl
 from-first l (suc j) = refl
 
--- a file that is accepted has an accepted plan, 106 rows, at most 1,000 members, and each of them accepted after the one before it
-pub accepted-case : (s : List ℕ) (c : Case) → acceptingOf s ≡ values c → AcceptedCase c
+pub accepted-case : AcceptedKeepsRules
 unfolding acceptingOf
 accepted-case s c e =
     let f = parts true s c e in
@@ -35,8 +35,7 @@ accepted-case s c e =
       member = λ j h. rw (← from-first (c .members) j) (kept-at (c .plan) (c .rows) 0 (c .members) (k .0) j h);
     }
 
--- and a file whose form is right and whose values are such is accepted: "Every callable entry states its result [..]"
-pub accepts-case : (s : List ℕ) (c : Case) → walkOf false s ≡ values c → AcceptedCase c → acceptingOf s ≡ values c
+pub accepts-case : AcceptsWhatKeepsRules
 unfolding acceptingOf
 accepts-case s c e a =
     let f = parts false s c e in
@@ -72,6 +71,5 @@ accepted-of (values c) {p} {n} oldRows oldMembers is answer table array =
 accepted-of (refusal k l) oldRows oldMembers is answer table array =
     let z : _≡_ {A = ℕ} 0 1 = cc in absurd (omega arith)
 
--- where accept_case answers Accepted p n, the plan is accepted with the rows of the array, and each of the n members after the one before it
-pub accepted-arrays : (s : List ℕ) {p : Plan} {n : ℕ} {rows : List (List ℕ)} {members : List ℕ} (oldRows : List (List ℕ)) (oldMembers : List ℕ) → Accepted p n ≡ accepting (acceptingOf s) → rows ≡ rowsAfter (acceptingOf s) oldRows → members ≡ membersAfter (acceptingOf s) oldMembers → AcceptedArrays p n rows members
-accepted-arrays s oldRows oldMembers = accepted-of (acceptingOf s) oldRows oldMembers (accepted-case s)
+pub accepted-arrays : AcceptedFillsArrays
+accepted-arrays s p n rows oldRows members oldMembers = accepted-of (acceptingOf s) oldRows oldMembers (accepted-case s)

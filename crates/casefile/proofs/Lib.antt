@@ -12,6 +12,7 @@ pub mod PartLaws
 pub mod WalkLaws
 pub mod Accepted
 pub mod AnswerLaws
+pub mod RangeLaws
 pub mod OrderLaws
 pub mod ReadingLaws
 pub mod Theorems

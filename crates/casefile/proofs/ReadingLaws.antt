@@ -1,6 +1,6 @@
 -- Reading and accepting, line by line: which numbers reading gives, at which lines, and that accepting stops there or before.
 use Prim.Native.Nat.{ℕ, zero, suc, _+_, _-_, _≤_, _<_}
-use mathlib.Core.Path.{refl}
+use mathlib.Core.Path.{_≡_, refl}
 use mathlib.Core.List.{List, [], _∷_}
 use mathlib.Core.Bool.{Bool, true, false, cond}
 use mathlib.Core.Logic.{inl}
@@ -23,19 +23,11 @@ use Rattle.casefile.specs.Outcome.{Outcome, values, refusal}
 use Rattle.casefile.specs.Heading.{termOf, termRule, formulaFrom, afterTerm, headOf}
 use Rattle.casefile.specs.Rows.{rowOf, rowRule, afterRow, rowsOf}
 use Rattle.casefile.specs.Members.{endMade, entryOf, afterEntry, membersOf}
+use Rattle.casefile.specs.Answers.{FormNumber, too-long, cut, tail, count, plan-form, member-form, surplus}
+use Rattle.casefile.proofs.RangeLaws.{Ranged, row-ranged, member-ranged, term-ranged}
 use Rattle.casefile.proofs.OrderLaws.{Only, only-prepend, only-weaker, Later, Sooner, line-sooner}
 
--- the seven numbers of form
-pub data FormNumber : ℕ → Type 0 where
-  too-long : FormNumber 1
-  cut : FormNumber 2
-  tail : FormNumber 3
-  count : FormNumber 4
-  plan-form : FormNumber 10
-  member-form : FormNumber 20
-  surplus : FormNumber 27
-
--- one of them, at line k or later
+-- a number of form, at line k or later
 abbrev pub FormFrom : ℕ → ℕ → ℕ → Type 0
 FormFrom k n l = FormNumber n × (k ≤ l)
 
@@ -52,12 +44,12 @@ module _ (k f : ℕ) where
   term-only true Malformed more h = (plan-form, omega arith)
   term-only true (Value v) more h = let g = formulaFrom k f v in only-prepend (FormFrom k) (v ∷ []) (more g) (from-later k (k + 1) (omega arith) (more g) (h g))
 
-  term-sooner : (top : ℕ) (b : Bool) (x : Number) (r a : ℕ → Outcome (List ℕ)) → k < top → ((g : ℕ) → Only (FormFrom (k + 1)) (r g)) → ((g : ℕ) → Sooner top (r g) (a g)) → Sooner top (cond b (afterTerm false k f x r) (refusal 2 k)) (cond b (afterTerm true k f x a) (refusal 2 k))
-  term-sooner top false x r a h low s = inl refl
-  term-sooner top true Malformed r a h low s = inl refl
-  term-sooner top true (Value v) r a h low s =
+  term-sooner : (top : ℕ) (b : Bool) (x : Number) (r a : ℕ → Outcome (List ℕ)) → ((v : ℕ) → x ≡ Value v → Ranged (termRule k f v)) → k < top → ((g : ℕ) → Only (FormFrom (k + 1)) (r g)) → ((g : ℕ) → Sooner top (r g) (a g)) → Sooner top (cond b (afterTerm false k f x r) (refusal 2 k)) (cond b (afterTerm true k f x a) (refusal 2 k))
+  term-sooner top false x r a ranged h low s = inl refl
+  term-sooner top true Malformed r a ranged h low s = inl refl
+  term-sooner top true (Value v) r a ranged h low s =
       let g = formulaFrom k f v in
-      line-sooner (termRule k f v) k top v (r g) (a g) h (past-line k (k + 1) (omega arith) (r g) (low g)) (s g)
+      line-sooner (termRule k f v) k top v (r g) (a g) (ranged v refl) h (past-line k (k + 1) (omega arith) (r g) (low g)) (s g)
 
 pub head-only : (n k f : ℕ) (s : List ℕ) → Only (FormFrom k) (headOf false n k f s)
 unfolding headOf
@@ -68,7 +60,7 @@ pub head-sooner : (top n k f : ℕ) (s : List ℕ) → k + n ≤ top → Sooner 
 unfolding headOf
 head-sooner top zero k f s h = inl refl
 head-sooner top (suc n) k f s h =
-    term-sooner k f top (hasOf 10 s) (termOf k (uptoOf 10 s)) _ _ (omega arith) (λ g. head-only n (k + 1) g (pastOf 10 s)) (λ g. head-sooner top n (k + 1) g (pastOf 10 s) (omega arith))
+    term-sooner k f top (hasOf 10 s) (termOf k (uptoOf 10 s)) _ _ (term-ranged k f (uptoOf 10 s)) (omega arith) (λ g. head-only n (k + 1) g (pastOf 10 s)) (λ g. head-sooner top n (k + 1) g (pastOf 10 s) (omega arith))
 
 -- ---- the rows
 module _ (age before : ℕ) (old : 15 ≤ age) where
@@ -81,7 +73,7 @@ module _ (age before : ℕ) (old : 15 ≤ age) where
   row-sooner top false x r a h low s = inl refl
   row-sooner top true Wrong r a h low s = inl refl
   row-sooner top true (Rates d w i z) r a h low s =
-      line-sooner (rowRule age before d w i z) (age - 6) top (d ∷ w ∷ i ∷ z ∷ []) (r z) (a z) h (past-line (age - 6) (age + 1 - 6) (omega arith) (r z) (low z)) (s z)
+      line-sooner (rowRule age before d w i z) (age - 6) top (d ∷ w ∷ i ∷ z ∷ []) (r z) (a z) (row-ranged age before d w i z) h (past-line (age - 6) (age + 1 - 6) (omega arith) (r z) (low z)) (s z)
 
 pub rows-only : (n age before : ℕ) (s : List ℕ) → 15 ≤ age → Only (FormFrom (age - 6)) (rowsOf false n age before s)
 unfolding rowsOf
@@ -112,7 +104,7 @@ module _ (p : Plan) (rows : List (List ℕ)) where
     entry-sooner : (top : ℕ) (b : Bool) (x : Entry) (r a : Member → Outcome (List Member)) → done + 115 < top → ((m : Member) → Only (FormFrom (done + 1 + 115)) (r m)) → ((m : Member) → Sooner top (r m) (a m)) → Sooner top (cond b (afterEntry false p rows done before x rest r) (refusal 2 (done + 115))) (cond b (afterEntry true p rows done before x rest a) (refusal 2 (done + 115)))
     entry-sooner top false x r a h low s = inl refl
     entry-sooner top true (OfMember m) r a h low s =
-        line-sooner (memberRefusal p rows before m) (done + 115) top m (r m) (a m) h (past-line (done + 115) (done + 1 + 115) (omega arith) (r m) (low m)) (s m)
+        line-sooner (memberRefusal p rows before m) (done + 115) top m (r m) (a m) (member-ranged p rows before m) h (past-line (done + 115) (done + 1 + 115) (omega arith) (r m) (low m)) (s m)
     entry-sooner top true (OfEnd v) r a h low s = inl refl
     entry-sooner top true Surplus r a h low s = inl refl
     entry-sooner top true Neither r a h low s = inl refl

@@ -1,5 +1,5 @@
--- Document 01's words on reading and accepting, as theorems of the definitions.
-use Prim.Native.Nat.{ℕ, _≤_, _<_}
+-- The statements of specs/Answers.antt on what reading and accepting refuse.
+use Prim.Native.Nat.{ℕ, _≤_}
 use mathlib.Core.Path.{_≡_, refl, sym, ap, _∙_}
 use mathlib.Core.List.{List}
 use mathlib.Core.Bool.{Bool, true, false, cond}
@@ -8,16 +8,17 @@ use lib.ListN.{length}
 use lib.Dec.{ltb}
 use native.Mathlib.Omega.{arith}
 use Rattle.plan.specs.declared.Plan.{Plan}
-use Rattle.casefile.specs.declared.Reading.the-variants.{Read, Refused}
+use Rattle.casefile.specs.declared.Reading.the-variants.{Refused}
 use Rattle.casefile.specs.Split.{linesPast}
 use Rattle.casefile.specs.Outcome.{Outcome, values, refusal, andThen}
 use Rattle.casefile.specs.Heading.{headOf, planOf}
 use Rattle.casefile.specs.Rows.{rowsOf}
 use Rattle.casefile.specs.Members.{membersOf}
 use Rattle.casefile.specs.Case.{Case, walkOf, reading, readingOf, acceptingOf}
+use Rattle.casefile.specs.Answers.{too-long, ReadingGivesForm, ReadingRefuses, AcceptingRefuses, AcceptedWasRead}
 use Rattle.casefile.proofs.OutcomeLaws.{no-values}
 use Rattle.casefile.proofs.OrderLaws.{Only, only-weaker, only-then, Before, Sooner, then-sooner}
-use Rattle.casefile.proofs.ReadingLaws.{FormNumber, too-long, FormFrom, head-only, head-sooner, rows-only, rows-sooner, members-only, members-sooner}
+use Rattle.casefile.proofs.ReadingLaws.{FormFrom, head-only, head-sooner, rows-only, rows-sooner, members-only, members-sooner}
 
 -- ---- the parts of the walk
 abbrev members-part : (ranges : Bool) → List ℕ → Plan → List (List ℕ) → Outcome Case
@@ -59,7 +60,6 @@ walk-sooner s = pick (ltb 65536 (length s))
     pick true h = inl refl
     pick false h = h
 
--- "Reading settles form and gives 1, 2, 3, 4, 10, 20 and 27 only."
 walk-form : (s : List ℕ) → Only (FormFrom 0) (walkOf false s)
 unfolding walkOf
 walk-form s = pick (ltb 65536 (length s))
@@ -72,28 +72,28 @@ refused-of : (o : Outcome Case) {n l : ℕ} → reading o ≡ Refused n l → o 
 refused-of (values c) e = let z : _≡_ {A = ℕ} 0 1 = cc in absurd (omega arith)
 refused-of (refusal n l) e = cc
 
-pub reading-gives : (s : List ℕ) {n l : ℕ} → readingOf s ≡ Refused n l → FormNumber n
+pub reading-gives : ReadingGivesForm
 unfolding readingOf
-reading-gives s e = (rw (refused-of (walkOf false s) e) at (walk-form s)) .0
+reading-gives s n l e = (rw (refused-of (walkOf false s) e) at (walk-form s)) .0
 
--- what reading refuses, accepting refuses too: the same, or at an earlier line
-pub record RefusedToo (s : List ℕ) (n l : ℕ) : Type 0 where
-  pub number : ℕ
-  pub line : ℕ
-  pub is : acceptingOf s ≡ refusal number line
-  pub first : ((number ≡ n) × (line ≡ l)) ⊎ (line < l)
-
-pub reading-refuses : (s : List ℕ) {n l : ℕ} → readingOf s ≡ Refused n l → RefusedToo s n l
+pub reading-refuses : ReadingRefuses
 unfolding readingOf acceptingOf
-reading-refuses s {n} {l} e =
+reading-refuses s n l e =
     let read = refused-of (walkOf false s) e in
     ⊎-elim
     (λ (same : walkOf false s ≡ walkOf true s). record { number = n; line = l; is = sym same ∙ read; first = inl (refl, refl) })
-    (λ (b : Before 1116 (walkOf false s) (walkOf true s)). record { number = b .number; line = b .line; is = b .is; first = inr (rw read at (b .later)) })
+    (λ (b : Before 1116 (walkOf false s) (walkOf true s)). record { number = b .number; line = b .line; is = b .is; first = inr (b .range, rw read at (b .later)) })
     (walk-sooner s)
 
--- a file that is accepted was read
-pub accepted-was-read : (s : List ℕ) (c : Case) → acceptingOf s ≡ values c → readingOf s ≡ Read
+pub accepting-refuses : AcceptingRefuses
+unfolding readingOf acceptingOf
+accepting-refuses s n l e =
+    ⊎-elim
+    (λ (same : walkOf false s ≡ walkOf true s). inl (ap reading (same ∙ e)))
+    (λ (b : Before 1116 (walkOf false s) (walkOf true s)). let number : b .number ≡ n = cc (b .is, e) in inr (rw number at (b .range)))
+    (walk-sooner s)
+
+pub accepted-was-read : AcceptedWasRead
 unfolding readingOf acceptingOf
 accepted-was-read s c e =
     ⊎-elim

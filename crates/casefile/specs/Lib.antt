@@ -9,3 +9,4 @@ pub mod Rows
 pub mod Members
 pub mod Case
 pub mod Stored
+pub mod Answers
