@@ -21,13 +21,13 @@ use Rattle.casefile.specs.declared.numbers.Number.{Number}
 use Rattle.casefile.specs.declared.numbers.Number.the-variants.{Value, Malformed}
 use Rattle.casefile.specs.declared.rows.RowForm.{RowForm}
 use Rattle.casefile.specs.declared.rows.RowForm.the-variants.{Rates, Wrong}
-use Rattle.casefile.specs.declared.members.Entry.{Entry}
-use Rattle.casefile.specs.declared.members.Entry.the-variants.{OfMember, OfEnd, Surplus, Neither}
+use Rattle.casefile.specs.declared.members.Tail.{Tail}
+use Rattle.casefile.specs.declared.members.Tail.the-variants.{OfMember, OfEnd, Surplus, Neither}
 use Rattle.casefile.specs.Split.{hasOf, uptoOf, pastOf}
 use Rattle.casefile.specs.Outcome.{Outcome, values, refusal, settled}
 use Rattle.casefile.specs.Heading.{termOf, termRule, formulaFrom, afterTerm, headOf, planOf}
 use Rattle.casefile.specs.Rows.{rowOf, rowRule, afterRow, rowsOf}
-use Rattle.casefile.specs.Members.{entryOf, afterEntry, membersOf}
+use Rattle.casefile.specs.Members.{tailOf, afterTail, membersOf}
 use Rattle.casefile.specs.Case.{nobody}
 use Rattle.casefile.specs.Stored.{narrowOf, each}
 use Rattle.casefile.proofs.Laws.{and-true-left, and-true-right}
@@ -169,24 +169,24 @@ none-left false b k j e = no-values e
 
 module _ (p : Plan) (rows : List (List ℕ)) where
   -- one line, with `more` of the lines after a member
-  entry : (b : Bool) (n count before : ℕ) (rest : List ℕ) (l : List Member) (x : Entry) (more : Member → Outcome (List Member)) → ((m : Member) (k : List Member) → more m ≡ values k → Kept p rows (m .id) k × (length k < n)) → cond b (afterEntry true p rows count before x rest more) (refusal 2 (count + 115)) ≡ values l → Kept p rows before l × (length l ≤ n)
-  entry false n count before rest l x more later e = no-values e
-  entry true n count before rest l (OfMember m) more later e =
+  tail-kept : (b : Bool) (n count before : ℕ) (rest : List ℕ) (l : List Member) (x : Tail) (more : Member → Outcome (List Member)) → ((m : Member) (k : List Member) → more m ≡ values k → Kept p rows (m .id) k × (length k < n)) → cond b (afterTail true p rows count before x rest more) (refusal 2 (count + 115)) ≡ values l → Kept p rows before l × (length l ≤ n)
+  tail-kept false n count before rest l x more later e = no-values e
+  tail-kept true n count before rest l (OfMember m) more later e =
       let a = passed (memberRefusal p rows before m) (count + 115) _ e in
       let b = prepended m (more m) (a .1) in
       let c = later m (b .0) (b .2) in
       rw (b .1) ((a .0, c .0), c .1)
-  entry true n count before rest l (OfEnd v) more later e =
+  tail-kept true n count before rest l (OfEnd v) more later e =
       rw (none-left (eqb v count) (eqb (length rest) 0) (count + 116) (count + 115) e) (tt, omega arith)
-  entry true n count before rest l Surplus more later e = no-values e
-  entry true n count before rest l Neither more later e = no-values e
+  tail-kept true n count before rest l Surplus more later e = no-values e
+  tail-kept true n count before rest l Neither more later e = no-values e
 
   pub members-kept : (n count before : ℕ) (s : List ℕ) (l : List Member) → membersOf true p rows n count before s ≡ values l → Kept p rows before l × (length l ≤ n)
   unfolding membersOf
   members-kept zero count before s l e =
-      entry (hasOf 10 s) 0 count before (pastOf 10 s) l (entryOf true (uptoOf 10 s)) (λ m. refusal 27 (count + 115)) (λ m k h. no-values h) e
+      tail-kept (hasOf 10 s) 0 count before (pastOf 10 s) l (tailOf true (uptoOf 10 s)) (λ m. refusal 27 (count + 115)) (λ m k h. no-values h) e
   members-kept (suc n) count before s l e =
-      entry (hasOf 10 s) (suc n) count before (pastOf 10 s) l (entryOf false (uptoOf 10 s)) (λ m. membersOf true p rows n (count + 1) (m .id) (pastOf 10 s)) (λ m k h. let r = members-kept n (count + 1) (m .id) (pastOf 10 s) k h in (r .0, omega arith)) e
+      tail-kept (hasOf 10 s) (suc n) count before (pastOf 10 s) l (tailOf false (uptoOf 10 s)) (λ m. membersOf true p rows n (count + 1) (m .id) (pastOf 10 s)) (λ m k h. let r = members-kept n (count + 1) (m .id) (pastOf 10 s) k h in (r .0, omega arith)) e
 
   pub kept-at : (first : ℕ) (l : List Member) → Kept p rows first l → (j : ℕ) → j < length l → memberRefusal p rows (idFrom first l j) (getD l j nobody) ≡ 0
   kept-at first [] k j h = absurd (omega arith)

@@ -18,13 +18,13 @@ use Rattle.casefile.specs.declared.numbers.Number.{Number}
 use Rattle.casefile.specs.declared.numbers.Number.the-variants.{Value, Malformed}
 use Rattle.casefile.specs.declared.rows.RowForm.{RowForm}
 use Rattle.casefile.specs.declared.rows.RowForm.the-variants.{Rates, Wrong}
-use Rattle.casefile.specs.declared.members.Entry.{Entry}
-use Rattle.casefile.specs.declared.members.Entry.the-variants.{OfMember, OfEnd, Surplus, Neither}
+use Rattle.casefile.specs.declared.members.Tail.{Tail}
+use Rattle.casefile.specs.declared.members.Tail.the-variants.{OfMember, OfEnd, Surplus, Neither}
 use Rattle.casefile.specs.Split.{hasOf, uptoOf, pastOf}
 use Rattle.casefile.specs.Outcome.{Outcome, values, refusal, prepend, passing}
 use Rattle.casefile.specs.Heading.{termOf, termRule, formulaFrom, afterTerm, headOf, planOf}
 use Rattle.casefile.specs.Rows.{rowOf, rowRule, afterRow, rowsOf}
-use Rattle.casefile.specs.Members.{entryOf, afterEntry, membersOf}
+use Rattle.casefile.specs.Members.{tailOf, afterTail, membersOf}
 use Rattle.casefile.specs.Case.{nobody}
 use Rattle.casefile.proofs.OutcomeLaws.{no-values, prepended}
 use Rattle.casefile.proofs.AcceptedLaws.{term, idFrom, Kept}
@@ -116,21 +116,21 @@ plan-kept p rows e = let k = all-kept (firstOf (headRules p) ∷ rowsRefusal row
 
 -- ---- the members
 module _ (p : Plan) (rows : List (List ℕ)) where
-  entry-exact : (count before : ℕ) (rest : List ℕ) (b : Bool) (x : Entry) (r a : Member → Outcome (List Member)) (l : List Member) → Kept p rows before l → ((m : Member) (k : List Member) → Kept p rows (m .id) k → r m ≡ values k → a m ≡ values k) → cond b (afterEntry false p rows count before x rest r) (refusal 2 (count + 115)) ≡ values l → cond b (afterEntry true p rows count before x rest a) (refusal 2 (count + 115)) ≡ values l
-  entry-exact count before rest false x r a l kept on e = no-values e
-  entry-exact count before rest true (OfMember m) r a l kept on e =
+  tail-exact : (count before : ℕ) (rest : List ℕ) (b : Bool) (x : Tail) (r a : Member → Outcome (List Member)) (l : List Member) → Kept p rows before l → ((m : Member) (k : List Member) → Kept p rows (m .id) k → r m ≡ values k → a m ≡ values k) → cond b (afterTail false p rows count before x rest r) (refusal 2 (count + 115)) ≡ values l → cond b (afterTail true p rows count before x rest a) (refusal 2 (count + 115)) ≡ values l
+  tail-exact count before rest false x r a l kept on e = no-values e
+  tail-exact count before rest true (OfMember m) r a l kept on e =
       line-exact m (memberRefusal p rows before m) (count + 115) (r m) (a m) e
       (λ more is. let h : Kept p rows before (m ∷ more) = rw is at kept in (h .0, on m more (h .1)))
-  entry-exact count before rest true (OfEnd n) r a l kept on e = e
-  entry-exact count before rest true Surplus r a l kept on e = no-values e
-  entry-exact count before rest true Neither r a l kept on e = no-values e
+  tail-exact count before rest true (OfEnd n) r a l kept on e = e
+  tail-exact count before rest true Surplus r a l kept on e = no-values e
+  tail-exact count before rest true Neither r a l kept on e = no-values e
 
   pub members-exact : (n count before : ℕ) (s : List ℕ) (l : List Member) → membersOf false p rows n count before s ≡ values l → Kept p rows before l → membersOf true p rows n count before s ≡ values l
   unfolding membersOf
   members-exact zero count before s l e kept =
-      entry-exact count before (pastOf 10 s) (hasOf 10 s) (entryOf true (uptoOf 10 s)) _ _ l kept (λ m k h i. i) e
+      tail-exact count before (pastOf 10 s) (hasOf 10 s) (tailOf true (uptoOf 10 s)) _ _ l kept (λ m k h i. i) e
   members-exact (suc n) count before s l e kept =
-      entry-exact count before (pastOf 10 s) (hasOf 10 s) (entryOf false (uptoOf 10 s)) _ _ l kept (λ m k h i. members-exact n (count + 1) (m .id) (pastOf 10 s) k i h) e
+      tail-exact count before (pastOf 10 s) (hasOf 10 s) (tailOf false (uptoOf 10 s)) _ _ l kept (λ m k h i. members-exact n (count + 1) (m .id) (pastOf 10 s) k i h) e
 
   -- each member of a list after the one before it, from a first id on
   pub all-members : (first : ℕ) (l : List Member) → ((j : ℕ) → j < length l → memberRefusal p rows (idFrom first l j) (getD l j nobody) ≡ 0) → Kept p rows first l

@@ -14,15 +14,15 @@ use Rattle.casefile.specs.declared.numbers.Number.{Number}
 use Rattle.casefile.specs.declared.numbers.Number.the-variants.{Value, Malformed}
 use Rattle.casefile.specs.declared.rows.RowForm.{RowForm}
 use Rattle.casefile.specs.declared.rows.RowForm.the-variants.{Rates, Wrong}
-use Rattle.casefile.specs.declared.members.Entry.{Entry}
-use Rattle.casefile.specs.declared.members.Entry.the-variants.{OfMember, OfEnd, Surplus, Neither}
+use Rattle.casefile.specs.declared.members.Tail.{Tail}
+use Rattle.casefile.specs.declared.members.Tail.the-variants.{OfMember, OfEnd, Surplus, Neither}
 use Rattle.casefile.specs.Text.{bytes}
 use Rattle.casefile.specs.Split.{hasOf, uptoOf, pastOf, startsOf}
 use Rattle.casefile.specs.Numbers.{wholeOf}
 use Rattle.casefile.specs.Outcome.{Outcome, values, refusal}
 use Rattle.casefile.specs.Heading.{termOf, termRule, formulaFrom, afterTerm, headOf}
 use Rattle.casefile.specs.Rows.{rowOf, rowRule, afterRow, rowsOf}
-use Rattle.casefile.specs.Members.{endMade, entryOf, afterEntry, membersOf}
+use Rattle.casefile.specs.Members.{endMade, tailOf, afterTail, membersOf}
 use Rattle.casefile.specs.Answers.{FormNumber, too-long, cut, tail, count, plan-form, member-form, surplus}
 use Rattle.casefile.proofs.RangeLaws.{Ranged, row-ranged, member-ranged, term-ranged}
 use Rattle.casefile.proofs.OrderLaws.{Only, only-prepend, only-weaker, Later, Sooner, line-sooner}
@@ -94,23 +94,23 @@ module _ (p : Plan) (rows : List (List ℕ)) where
   end-only false b c = (count, omega arith)
 
   module _ (done before : ℕ) (rest : List ℕ) where
-    entry-only : (b : Bool) (x : Entry) (more : Member → Outcome (List Member)) → ((m : Member) → Only (FormFrom (done + 115)) (more m)) → Only (FormFrom (done + 115)) (cond b (afterEntry false p rows done before x rest more) (refusal 2 (done + 115)))
-    entry-only false x more h = (cut, omega arith)
-    entry-only true (OfMember m) more h = only-prepend (FormFrom (done + 115)) (m ∷ []) (more m) (h m)
-    entry-only true (OfEnd v) more h = end-only (eqb v done) (eqb (length rest) 0) done
-    entry-only true Surplus more h = (surplus, omega arith)
-    entry-only true Neither more h = (member-form, omega arith)
+    tail-only : (b : Bool) (x : Tail) (more : Member → Outcome (List Member)) → ((m : Member) → Only (FormFrom (done + 115)) (more m)) → Only (FormFrom (done + 115)) (cond b (afterTail false p rows done before x rest more) (refusal 2 (done + 115)))
+    tail-only false x more h = (cut, omega arith)
+    tail-only true (OfMember m) more h = only-prepend (FormFrom (done + 115)) (m ∷ []) (more m) (h m)
+    tail-only true (OfEnd v) more h = end-only (eqb v done) (eqb (length rest) 0) done
+    tail-only true Surplus more h = (surplus, omega arith)
+    tail-only true Neither more h = (member-form, omega arith)
 
-    entry-sooner : (top : ℕ) (b : Bool) (x : Entry) (r a : Member → Outcome (List Member)) → done + 115 < top → ((m : Member) → Only (FormFrom (done + 1 + 115)) (r m)) → ((m : Member) → Sooner top (r m) (a m)) → Sooner top (cond b (afterEntry false p rows done before x rest r) (refusal 2 (done + 115))) (cond b (afterEntry true p rows done before x rest a) (refusal 2 (done + 115)))
-    entry-sooner top false x r a h low s = inl refl
-    entry-sooner top true (OfMember m) r a h low s =
+    tail-sooner : (top : ℕ) (b : Bool) (x : Tail) (r a : Member → Outcome (List Member)) → done + 115 < top → ((m : Member) → Only (FormFrom (done + 1 + 115)) (r m)) → ((m : Member) → Sooner top (r m) (a m)) → Sooner top (cond b (afterTail false p rows done before x rest r) (refusal 2 (done + 115))) (cond b (afterTail true p rows done before x rest a) (refusal 2 (done + 115)))
+    tail-sooner top false x r a h low s = inl refl
+    tail-sooner top true (OfMember m) r a h low s =
         line-sooner (memberRefusal p rows before m) (done + 115) top m (r m) (a m) (member-ranged p rows before m) h (past-line (done + 115) (done + 1 + 115) (omega arith) (r m) (low m)) (s m)
-    entry-sooner top true (OfEnd v) r a h low s = inl refl
-    entry-sooner top true Surplus r a h low s = inl refl
-    entry-sooner top true Neither r a h low s = inl refl
+    tail-sooner top true (OfEnd v) r a h low s = inl refl
+    tail-sooner top true Surplus r a h low s = inl refl
+    tail-sooner top true Neither r a h low s = inl refl
 
     -- with no room left no line is a member's
-    full-sooner : (top : ℕ) (b c d : Bool) (w : Number) (more : Member → Outcome (List Member)) → let x = cond c Surplus (cond d (endMade w) Neither) in Sooner top (cond b (afterEntry false p rows done before x rest more) (refusal 2 (done + 115))) (cond b (afterEntry true p rows done before x rest more) (refusal 2 (done + 115)))
+    full-sooner : (top : ℕ) (b c d : Bool) (w : Number) (more : Member → Outcome (List Member)) → let x = cond c Surplus (cond d (endMade w) Neither) in Sooner top (cond b (afterTail false p rows done before x rest more) (refusal 2 (done + 115))) (cond b (afterTail true p rows done before x rest more) (refusal 2 (done + 115)))
     full-sooner top false c d w more = inl refl
     full-sooner top true true d w more = inl refl
     full-sooner top true false false w more = inl refl
@@ -120,16 +120,16 @@ module _ (p : Plan) (rows : List (List ℕ)) where
   pub members-only : (n done before : ℕ) (s : List ℕ) → Only (FormFrom (done + 115)) (membersOf false p rows n done before s)
   unfolding membersOf
   members-only zero done before s =
-      entry-only done before (pastOf 10 s) (hasOf 10 s) (entryOf true (uptoOf 10 s)) (λ m. refusal 27 (done + 115)) (λ m. (surplus, omega arith))
+      tail-only done before (pastOf 10 s) (hasOf 10 s) (tailOf true (uptoOf 10 s)) (λ m. refusal 27 (done + 115)) (λ m. (surplus, omega arith))
   members-only (suc n) done before s =
       let more : Member → Outcome (List Member) = λ m. membersOf false p rows n (done + 1) (m .id) (pastOf 10 s) in
-      entry-only done before (pastOf 10 s) (hasOf 10 s) (entryOf false (uptoOf 10 s)) more
+      tail-only done before (pastOf 10 s) (hasOf 10 s) (tailOf false (uptoOf 10 s)) more
       (λ m. from-later (done + 115) (done + 1 + 115) (omega arith) (more m) (members-only n (done + 1) (m .id) (pastOf 10 s)))
 
   pub members-sooner : (top n done before : ℕ) (s : List ℕ) → done + 115 + n ≤ top → Sooner top (membersOf false p rows n done before s) (membersOf true p rows n done before s)
-  unfolding membersOf entryOf
+  unfolding membersOf tailOf
   members-sooner top zero done before s h =
       let l = uptoOf 10 s in
       full-sooner done before (pastOf 10 s) top (hasOf 10 s) (startsOf (bytes "member=") l) (startsOf (bytes "end=") l) (wholeOf (drop 4 l)) (λ m. refusal 27 (done + 115))
   members-sooner top (suc n) done before s h =
-      entry-sooner done before (pastOf 10 s) top (hasOf 10 s) (entryOf false (uptoOf 10 s)) _ _ (omega arith) (λ m. members-only n (done + 1) (m .id) (pastOf 10 s)) (λ m. members-sooner top n (done + 1) (m .id) (pastOf 10 s) (omega arith))
+      tail-sooner done before (pastOf 10 s) top (hasOf 10 s) (tailOf false (uptoOf 10 s)) _ _ (omega arith) (λ m. members-only n (done + 1) (m .id) (pastOf 10 s)) (λ m. members-sooner top n (done + 1) (m .id) (pastOf 10 s) (omega arith))

@@ -15,14 +15,14 @@ use Rattle.casefile.specs.declared.rows.Table.{Table}
 use Rattle.casefile.specs.declared.rows.Table.the-variants.{Full, Refused as TableRefused}
 use Rattle.casefile.specs.declared.members.Count.{Count}
 use Rattle.casefile.specs.declared.members.Count.the-variants.{Members, Refused as CountRefused}
-use Rattle.casefile.specs.declared.members.Entry.{Entry}
-use Rattle.casefile.specs.declared.members.Entry.the-variants.{OfMember, OfEnd, Surplus, Neither}
+use Rattle.casefile.specs.declared.members.Tail.{Tail}
+use Rattle.casefile.specs.declared.members.Tail.the-variants.{OfMember, OfEnd, Surplus, Neither}
 use Rattle.casefile.specs.declared.Walk.the-variants.{Whole}
 use Rattle.casefile.specs.Split.{hasOf, uptoOf, pastOf, linesPast}
 use Rattle.casefile.specs.Outcome.{Outcome, values, refusal, prepend}
 use Rattle.casefile.specs.Heading.{headOf, planOf}
 use Rattle.casefile.specs.Rows.{rowsOf}
-use Rattle.casefile.specs.Members.{entryOf, afterEntry, membersOf}
+use Rattle.casefile.specs.Members.{tailOf, afterTail, membersOf}
 use Rattle.casefile.specs.Case.{Case, walkOf}
 use Rattle.casefile.specs.Stored.{headed, tabled, narrowOf, each, in32, counted, walked, Holds}
 use Rattle.casefile.proofs.OutcomeLaws.{no-values, values-one}
@@ -31,18 +31,18 @@ use Rattle.casefile.proofs.AcceptedLaws.{rows-narrow, refuses-none}
 
 -- ---- without ranges the members do not hang on the plan and its rows
 module _ (p q : Plan) (rows table : List (List ℕ)) where
-  entry-alike : (count before : ℕ) (x : Entry) (rest : List ℕ) (f g : Member → Outcome (List Member)) → ((m : Member) → f m ≡ g m) → afterEntry false p rows count before x rest f ≡ afterEntry false q table count before x rest g
-  entry-alike count before (OfMember m) rest f g e = ap (prepend (m ∷ [])) (e m)
-  entry-alike count before (OfEnd n) rest f g e = refl
-  entry-alike count before Surplus rest f g e = refl
-  entry-alike count before Neither rest f g e = refl
+  tail-alike : (count before : ℕ) (x : Tail) (rest : List ℕ) (f g : Member → Outcome (List Member)) → ((m : Member) → f m ≡ g m) → afterTail false p rows count before x rest f ≡ afterTail false q table count before x rest g
+  tail-alike count before (OfMember m) rest f g e = ap (prepend (m ∷ [])) (e m)
+  tail-alike count before (OfEnd n) rest f g e = refl
+  tail-alike count before Surplus rest f g e = refl
+  tail-alike count before Neither rest f g e = refl
 
   pub members-alike : (n count before : ℕ) (s : List ℕ) → membersOf false p rows n count before s ≡ membersOf false q table n count before s
   unfolding membersOf
   members-alike zero count before s =
-      ap (λ (o : Outcome (List Member)). cond (hasOf 10 s) o (refusal 2 (count + 115))) (entry-alike count before (entryOf true (uptoOf 10 s)) (pastOf 10 s) _ _ (λ m. refl))
+      ap (λ (o : Outcome (List Member)). cond (hasOf 10 s) o (refusal 2 (count + 115))) (tail-alike count before (tailOf true (uptoOf 10 s)) (pastOf 10 s) _ _ (λ m. refl))
   members-alike (suc n) count before s =
-      ap (λ (o : Outcome (List Member)). cond (hasOf 10 s) o (refusal 2 (count + 115))) (entry-alike count before (entryOf false (uptoOf 10 s)) (pastOf 10 s) _ _ (λ m. members-alike n (count + 1) (m .id) (pastOf 10 s)))
+      ap (λ (o : Outcome (List Member)). cond (hasOf 10 s) o (refusal 2 (count + 115))) (tail-alike count before (tailOf false (uptoOf 10 s)) (pastOf 10 s) _ _ (λ m. members-alike n (count + 1) (m .id) (pastOf 10 s)))
 
 members-same : (ranges : Bool) (p : Plan) (rows table : List (List ℕ)) (s : List ℕ) → (ranges ≡ true → rows ≡ table) → membersOf ranges p rows 1000 0 0 s ≡ membersOf ranges p table 1000 0 0 s
 members-same true p rows table s e = rw (e refl)

@@ -11,8 +11,8 @@ use Rattle.casefile.specs.declared.numbers.Number.{Number}
 use Rattle.casefile.specs.declared.numbers.Number.the-variants.{Value, Malformed}
 use Rattle.casefile.specs.declared.numbers.Three.{Three}
 use Rattle.casefile.specs.declared.numbers.Three.the-variants.{Found, NotThree}
-use Rattle.casefile.specs.declared.members.Entry.{Entry}
-use Rattle.casefile.specs.declared.members.Entry.the-variants.{OfMember, OfEnd, Surplus, Neither}
+use Rattle.casefile.specs.declared.members.Tail.{Tail}
+use Rattle.casefile.specs.declared.members.Tail.the-variants.{OfMember, OfEnd, Surplus, Neither}
 use Rattle.casefile.specs.Text.{bytes}
 use Rattle.casefile.specs.Split.{hasOf, uptoOf, pastOf, startsOf}
 use Rattle.casefile.specs.Numbers.{wholeOf, amountOf}
@@ -20,21 +20,21 @@ use Rattle.casefile.specs.Fields.{threeOf, fourthOf}
 use Rattle.casefile.specs.Outcome.{Outcome, values, refusal, prepend, passing, settled}
 
 -- three whole numbers and an amount, with commas between
-abbrev pub memberMade : Three → Number → Entry
+abbrev pub memberMade : Three → Number → Tail
 memberMade (Found i y x) (Value s) = OfMember (record { id = i; entry = y; age = x; salary = s })
 memberMade (Found i y x) Malformed = Neither
 memberMade NotThree n = Neither
 
-unfoldable pub memberOf : List ℕ → Entry
+unfoldable pub memberOf : List ℕ → Tail
 memberOf s = memberMade (threeOf s) (amountOf (fourthOf s))
 
-abbrev pub endMade : Number → Entry
+abbrev pub endMade : Number → Tail
 endMade (Value n) = OfEnd n
 endMade Malformed = Neither
 
 -- "27 a line beginning member= after 1,000 members", whatever follows; "20 neither a member nor an end line, or its form is wrong"
-unfoldable pub entryOf : (full : Bool) → List ℕ → Entry
-entryOf full s =
+unfoldable pub tailOf : (full : Bool) → List ℕ → Tail
+tailOf full s =
     cond (startsOf (bytes "member=") s)
     (cond full Surplus (memberOf (drop 7 s)))
     (cond (startsOf (bytes "end=") s) (endMade (wholeOf (drop 4 s))) Neither)
@@ -48,20 +48,20 @@ endOf n count rest =
 
 module _ (ranges : Bool) (p : Plan) (rows : List (List ℕ)) where
   -- `before` is the id of the member before, 0 for the first; `rest` is what follows the line
-  abbrev pub afterEntry : (count before : ℕ) → Entry → List ℕ → (Member → Outcome (List Member)) → Outcome (List Member)
-  afterEntry count before (OfMember m) rest more =
+  abbrev pub afterTail : (count before : ℕ) → Tail → List ℕ → (Member → Outcome (List Member)) → Outcome (List Member)
+  afterTail count before (OfMember m) rest more =
       passing (settled ranges (memberRefusal p rows before m)) (count + 115) (prepend (m ∷ []) (more m))
-  afterEntry count before (OfEnd n) rest more = endOf n count rest
-  afterEntry count before Surplus rest more = refusal 27 (count + 115)
-  afterEntry count before Neither rest more = refusal 20 (count + 115)
+  afterTail count before (OfEnd n) rest more = endOf n count rest
+  afterTail count before Surplus rest more = refusal 27 (count + 115)
+  afterTail count before Neither rest more = refusal 20 (count + 115)
 
   -- the lines after `count` members, with room for `left` more. "in a line 2, 27, then rising number"
   unfoldable pub membersOf : (left count before : ℕ) → List ℕ → Outcome (List Member)
   membersOf zero count before s =
       cond (hasOf 10 s)
-      (afterEntry count before (entryOf true (uptoOf 10 s)) (pastOf 10 s) (λ m. refusal 27 (count + 115)))
+      (afterTail count before (tailOf true (uptoOf 10 s)) (pastOf 10 s) (λ m. refusal 27 (count + 115)))
       (refusal 2 (count + 115))
   membersOf (suc n) count before s =
       cond (hasOf 10 s)
-      (afterEntry count before (entryOf false (uptoOf 10 s)) (pastOf 10 s) (λ m. membersOf n (count + 1) (m .id) (pastOf 10 s)))
+      (afterTail count before (tailOf false (uptoOf 10 s)) (pastOf 10 s) (λ m. membersOf n (count + 1) (m .id) (pastOf 10 s)))
       (refusal 2 (count + 115))

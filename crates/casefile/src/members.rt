@@ -18,11 +18,11 @@ ghost use mathlib.Core.List.{List};
 ghost use Prim.Native.Nat.{_<_, _≤_};
 ghost use Rattle.plan.specs.Acceptance.{planRefusal, memberRefusal};
 ghost use Rattle.casefile.specs.Outcome.{values, settled};
-ghost use Rattle.casefile.specs.Members.{memberOf, entryOf, endOf, membersOf};
+ghost use Rattle.casefile.specs.Members.{memberOf, tailOf, endOf, membersOf};
 ghost use Rattle.casefile.specs.Stored.{arrayOf, storedAt, counted, ended};
 
 // What a line after the rows holds.
-pub enum Entry {
+pub enum Tail {
     OfMember(Member),
     OfEnd(u64),
     Surplus,
@@ -30,16 +30,16 @@ pub enum Entry {
 }
 
 // A member's id, entry age, age and salary, with commas between.
-fn member_fields(s: &[u8]) -> Entry
+fn member_fields(s: &[u8]) -> Tail
     ensures { λ r. ⌜ r ≡ memberOf (now (s .entry)) ⌝ }
 {
     let Three::Found(id, entry, age) = three_fields(s) else {
-        return Entry::Neither;
+        return Tail::Neither;
     };
     let Number::Value(salary) = amount(fourth(s)) else {
-        return Entry::Neither;
+        return Tail::Neither;
     };
-    Entry::OfMember(Member {
+    Tail::OfMember(Member {
         id,
         entry,
         age,
@@ -48,22 +48,22 @@ fn member_fields(s: &[u8]) -> Entry
 }
 
 // A line after the rows, without its byte 10. When the members are full one more is a surplus.
-fn entry_line(s: &[u8], full: bool) -> Entry
-    ensures { λ r. ⌜ r ≡ entryOf full (now (s .entry)) ⌝ }
+fn tail_line(s: &[u8], full: bool) -> Tail
+    ensures { λ r. ⌜ r ≡ tailOf full (now (s .entry)) ⌝ }
 {
     if starts(s, b"member=") {
         if full {
-            Entry::Surplus
+            Tail::Surplus
         } else {
             member_fields(&s[7..])
         }
     } else if starts(s, b"end=") {
         match whole(&s[4..]) {
-            Number::Value(n) => Entry::OfEnd(n),
-            Number::Malformed => Entry::Neither,
+            Number::Value(n) => Tail::OfEnd(n),
+            Number::Malformed => Tail::Neither,
         }
     } else {
-        Entry::Neither
+        Tail::Neither
     }
 }
 
@@ -137,8 +137,8 @@ pub fn member_lines(
         if rest.len() <= e {
             return Count::Refused(2, here);
         }
-        match entry_line(line(rest, e), left == 0) {
-            Entry::OfMember(m) => {
+        match tail_line(line(rest, e), left == 0) {
+            Tail::OfMember(m) => {
                 let refusal = member_refusal(ranges, p, rows, before, m);
                 if refusal != 0 {
                     return Count::Refused(refusal, here);
@@ -150,13 +150,13 @@ pub fn member_lines(
                 count += 1;
                 left -= 1;
             }
-            Entry::OfEnd(n) => {
+            Tail::OfEnd(n) => {
                 return ending(n, count, after_line(rest, e));
             }
-            Entry::Surplus => {
+            Tail::Surplus => {
                 return Count::Refused(27, here);
             }
-            Entry::Neither => {
+            Tail::Neither => {
                 return Count::Refused(20, here);
             }
         }

@@ -35,8 +35,8 @@ returns c = filled-refused (c .before .before .loop .inv .1) (members-cut _ _ _ 
 line-requires : tie.Need-line-requires Inv-loop μ-loop
 line-requires c κs = search needs
 
-entry-line-requires : tie.Need-entry-line-requires Inv-loop μ-loop
-entry-line-requires c κs = search needs
+tail-line-requires : tie.Need-tail-line-requires Inv-loop μ-loop
+tail-line-requires c κs = search needs
 
 enum-known-m : tie.Need-enum-known-m Inv-loop μ-loop
 enum-known-m c = search needs
@@ -45,28 +45,28 @@ member-refusal-requires : tie.Need-member-refusal-requires Inv-loop μ-loop
 member-refusal-requires c κs = c .before .before .before .before .before .before .before .before .before .before .pre
 
 returns-2 : tie.Need-returns-2 Inv-loop μ-loop
-returns-2 c = filled-refused (c .before .before .before .before .before .before .before .before .before .loop .inv .1) (members-refused _ _ _ _ _ _ _ (c .before .before .before .before .before .before .before .before .seek .ensures) (c .before .before .before .before .before .before .before .if1 .left) (c .before .before .before .before .before .before .line .ensures) (c .before .before .before .before .before .entry-line .ensures) (c .before .before .before .m .given .1) (c .before .member-refusal .ensures) (c .if2 .taken))
+returns-2 c = filled-refused (c .before .before .before .before .before .before .before .before .before .loop .inv .1) (members-refused _ _ _ _ _ _ _ (c .before .before .before .before .before .before .before .before .seek .ensures) (c .before .before .before .before .before .before .before .if1 .left) (c .before .before .before .before .before .before .line .ensures) (c .before .before .before .before .before .tail-line .ensures) (c .before .before .before .m .given .1) (c .before .member-refusal .ensures) (c .if2 .taken))
 
 put-requires : tie.Need-put-requires Inv-loop μ-loop
-put-requires c κs = omega (arith, room (c .before .before .before .before .before .before .before .before .before .before .loop .left) _ (c .before .before .before .before .before .before .entry-line .ensures) (c .before .before .before .before .m .given .1))
+put-requires c κs = omega (arith, room (c .before .before .before .before .before .before .before .before .before .before .loop .left) _ (c .before .before .before .before .before .before .tail-line .ensures) (c .before .before .before .before .m .given .1))
 
 after-line-requires : tie.Need-after-line-requires Inv-loop μ-loop
 after-line-requires c κs = search needs
 
 add-count : tie.Need-add-count Inv-loop μ-loop
-add-count c = omega (arith, room (c .before .before .before .before .before .before .before .before .before .before .before .before .loop .left) _ (c .before .before .before .before .before .before .before .before .entry-line .ensures) (c .before .before .before .before .before .before .m .given .1))
+add-count c = omega (arith, room (c .before .before .before .before .before .before .before .before .before .before .before .before .loop .left) _ (c .before .before .before .before .before .before .before .before .tail-line .ensures) (c .before .before .before .before .before .before .m .given .1))
 
 sub-left : tie.Need-sub-left Inv-loop μ-loop
-sub-left c = omega (arith, room (c .before .before .before .before .before .before .before .before .before .before .before .before .loop .left) _ (c .before .before .before .before .before .before .before .before .entry-line .ensures) (c .before .before .before .before .before .before .m .given .1))
+sub-left c = omega (arith, room (c .before .before .before .before .before .before .before .before .before .before .before .before .loop .left) _ (c .before .before .before .before .before .before .before .before .tail-line .ensures) (c .before .before .before .before .before .before .m .given .1))
 
 loop-less : tie.Need-loop-less Inv-loop μ-loop
-loop-less c = omega (arith, room (c .before .before .before .before .before .before .before .before .before .before .before .before .loop .left) _ (c .before .before .before .before .before .before .before .before .entry-line .ensures) (c .before .before .before .before .before .before .m .given .1))
+loop-less c = omega (arith, room (c .before .before .before .before .before .before .before .before .before .before .before .before .loop .left) _ (c .before .before .before .before .before .before .before .before .tail-line .ensures) (c .before .before .before .before .before .before .m .given .1))
 
 loop-again : tie.Need-loop-again Inv-loop μ-loop
 loop-again c =
     let at = c .before .before .before .before .before .before .before .before .before .before .before .before .loop in
-    let space = room (at .left) _ (c .before .before .before .before .before .before .before .before .entry-line .ensures) (c .before .before .before .before .before .before .m .given .1) in
-    (omega arith, filled-next (at .inv .1) _ _ (members-go _ _ _ _ _ _ _ (c .before .before .before .before .before .before .before .before .before .before .before .seek .ensures) (c .before .before .before .before .before .before .before .before .before .before .if1 .left) (c .before .before .before .before .before .before .before .before .before .line .ensures) (c .before .before .before .before .before .before .before .before .entry-line .ensures) (c .before .before .before .before .before .before .m .given .1) (c .before .before .before .before .member-refusal .ensures) (c .before .before .before .if2 .left) (c .after-line .ensures)) (c .before .put .ensures))
+    let space = room (at .left) _ (c .before .before .before .before .before .before .before .before .tail-line .ensures) (c .before .before .before .before .before .before .m .given .1) in
+    (omega arith, filled-next (at .inv .1) _ _ (members-go _ _ _ _ _ _ _ (c .before .before .before .before .before .before .before .before .before .before .before .seek .ensures) (c .before .before .before .before .before .before .before .before .before .before .if1 .left) (c .before .before .before .before .before .before .before .before .before .line .ensures) (c .before .before .before .before .before .before .before .before .tail-line .ensures) (c .before .before .before .before .before .before .m .given .1) (c .before .before .before .before .member-refusal .ensures) (c .before .before .before .if2 .left) (c .after-line .ensures)) (c .before .put .ensures))
 
 enum-known-n : tie.Need-enum-known-n Inv-loop μ-loop
 enum-known-n c = search needs
@@ -80,19 +80,19 @@ ending-requires c κs = search needs
 returns-3 : tie.Need-returns-3 Inv-loop μ-loop
 returns-3 c =
     let at = c .before .before .before .before .before .before .before .before .before .loop in
-    members-end _ _ _ _ _ _ _ (c .before .before .before .before .before .before .before .before .seek .ensures) (c .before .before .before .before .before .before .before .if1 .left) (c .before .before .before .before .before .before .line .ensures) (c .before .before .before .before .before .entry-line .ensures) (at .inv .1) (c .before .before .before .n .given .1) (c .before .after-line2 .ensures) (c .ending .ensures)
+    members-end _ _ _ _ _ _ _ (c .before .before .before .before .before .before .before .before .seek .ensures) (c .before .before .before .before .before .before .before .if1 .left) (c .before .before .before .before .before .before .line .ensures) (c .before .before .before .before .before .tail-line .ensures) (at .inv .1) (c .before .before .before .n .given .1) (c .before .after-line2 .ensures) (c .ending .ensures)
 
 enum-told : tie.Need-enum-told Inv-loop μ-loop
 enum-told c = search needs
 
 returns-4 : tie.Need-returns-4 Inv-loop μ-loop
-returns-4 c = filled-refused (c .before .before .before .before .before .before .loop .inv .1) (members-surplus _ _ _ _ _ _ _ (c .before .before .before .before .before .seek .ensures) (c .before .before .before .before .if1 .left) (c .before .before .before .line .ensures) (c .before .before .entry-line .ensures) (c .enum-told .given .1))
+returns-4 c = filled-refused (c .before .before .before .before .before .before .loop .inv .1) (members-surplus _ _ _ _ _ _ _ (c .before .before .before .before .before .seek .ensures) (c .before .before .before .before .if1 .left) (c .before .before .before .line .ensures) (c .before .before .tail-line .ensures) (c .enum-told .given .1))
 
 enum-told-2 : tie.Need-enum-told-2 Inv-loop μ-loop
 enum-told-2 c = search needs
 
 returns-5 : tie.Need-returns-5 Inv-loop μ-loop
-returns-5 c = filled-refused (c .before .before .before .before .before .before .loop .inv .1) (members-neither _ _ _ _ _ _ _ (c .before .before .before .before .before .seek .ensures) (c .before .before .before .before .if1 .left) (c .before .before .before .line .ensures) (c .before .before .entry-line .ensures) (c .enum-told2 .given .1))
+returns-5 c = filled-refused (c .before .before .before .before .before .before .loop .inv .1) (members-neither _ _ _ _ _ _ _ (c .before .before .before .before .before .seek .ensures) (c .before .before .before .before .if1 .left) (c .before .before .before .line .ensures) (c .before .before .tail-line .ensures) (c .enum-told2 .given .1))
 
 pub member-lines-spec : {M : Type 1} → statement M
 member-lines-spec =
@@ -105,7 +105,7 @@ member-lines-spec =
     seek-requires
     returns
     line-requires
-    entry-line-requires
+    tail-line-requires
     enum-known-m
     member-refusal-requires
     returns-2

@@ -1,7 +1,7 @@
--- `casefile::members::entry_line` meets its contract.
+-- `casefile::members::tail_line` meets its contract.
 use mathlib.Core.Path.{_≡_, sym, _∙_}
 use Rattle.casefile.proofs.Laws.{starts-le, rest-part}
-use Rattle.casefile.specs.Members.{entryOf}
+use Rattle.casefile.specs.Members.{tailOf}
 use Rattle.casefile.specs.Numbers.{wholeOf}
 use Rattle.casefile.specs.Split.{startsOf}
 use Rattle.casefile.specs.Text.{bytes}
@@ -10,8 +10,8 @@ use lib.ListN.{length, drop}
 use Prim.Native.Nat.{_≤_}
 use mathlib.Core.Bool.{true, false}
 use borrow.Author.Needs.{needs}
-use Rattle.casefile.proofs.members.entry_line.Statement.{statement}
-use Rattle.casefile.proofs.members.entry_line.Tie as tie
+use Rattle.casefile.proofs.members.tail_line.Statement.{statement}
+use Rattle.casefile.proofs.members.tail_line.Tie as tie
 
 member-fits : (c : tie.Else2) → 7 ≤ length (c .before .before .before .before .before .args .s .now)
 member-fits c = starts-le (bytes "member=") (c .before .before .before .before .before .args .s .now) (sym (c .before .before .starts .ensures) ∙ c .before .if1 .taken)
@@ -62,19 +62,19 @@ enum-told : tie.Need-enum-told
 enum-told c = search needs
 
 returns : tie.Need-returns
-unfolding entryOf
+unfolding tailOf
 returns c = let s = c .before .before .before .before .before .args .s .now in
     let m : startsOf (bytes "member=") s ≡ true = sym (c .before .before .starts .ensures) ∙ c .before .if1 .taken in
     simp (m, c .if2 .taken)
 
 returns-2 : tie.Need-returns-2
-unfolding entryOf
+unfolding tailOf
 returns-2 c = let s = c .before .before .before .before .before .before .before .args .s .now in
     let m : startsOf (bytes "member=") s ≡ true = sym (c .before .before .before .before .starts .ensures) ∙ c .before .before .before .if1 .taken in
     simp (m, c .before .before .if2 .left) (rw (rest-part s 7) at (c .member-fields .ensures))
 
 returns-3 : tie.Need-returns-3
-unfolding entryOf
+unfolding tailOf
 returns-3 c = let s = c .before .before .before .before .before .before .before .before .before .before .before .before .args .s .now in
     let m : startsOf (bytes "member=") s ≡ false = sym (c .before .before .before .before .before .before .before .before .before .starts .ensures) ∙ c .before .before .before .before .before .before .before .before .if1 .left in
     let e : startsOf (bytes "end=") s ≡ true = sym (c .before .before .before .before .before .before .starts2 .ensures) ∙ c .before .before .before .before .before .if3 .taken in
@@ -82,7 +82,7 @@ returns-3 c = let s = c .before .before .before .before .before .before .before 
     simp (m, e, n)
 
 returns-4 : tie.Need-returns-4
-unfolding entryOf
+unfolding tailOf
 returns-4 c = let s = c .before .before .before .before .before .before .before .before .before .before .before .args .s .now in
     let m : startsOf (bytes "member=") s ≡ false = sym (c .before .before .before .before .before .before .before .before .starts .ensures) ∙ c .before .before .before .before .before .before .before .if1 .left in
     let e : startsOf (bytes "end=") s ≡ true = sym (c .before .before .before .before .before .starts2 .ensures) ∙ c .before .before .before .before .if3 .taken in
@@ -90,14 +90,14 @@ returns-4 c = let s = c .before .before .before .before .before .before .before 
     simp (m, e, n)
 
 returns-5 : tie.Need-returns-5
-unfolding entryOf
+unfolding tailOf
 returns-5 c = let s = c .before .before .before .before .before .before .before .args .s .now in
     let m : startsOf (bytes "member=") s ≡ false = sym (c .before .before .before .before .starts .ensures) ∙ c .before .before .before .if1 .left in
     let e : startsOf (bytes "end=") s ≡ false = sym (c .before .starts2 .ensures) ∙ c .if3 .left in
     simp (m, e)
 
-pub entry-line-spec : {M : Type 1} → statement M
-entry-line-spec =
+pub tail-line-spec : {M : Type 1} → statement M
+tail-line-spec =
     tie.close
     (tie.spec
     slice-aggregate-starts
