@@ -11,7 +11,7 @@ use Rattle.casefile.specs.declared.Accepting.the-variants.{Accepted}
 use Rattle.casefile.specs.Split.{linesPast}
 use Rattle.casefile.specs.Outcome.{Outcome, values, refusal}
 use Rattle.casefile.specs.Heading.{planOf}
-use Rattle.casefile.specs.Case.{Case, walkOf, acceptingOf, accepting, idBefore, AcceptedCase}
+use Rattle.casefile.specs.Case.{Case, acceptingOf, accepting, idBefore, AcceptedCase}
 use Rattle.casefile.specs.Stored.{arrayOf, idBeforeAt, rowsAfter, membersAfter, AcceptedArrays}
 use Rattle.casefile.specs.Answers.{AcceptedKeepsRules, AcceptsWhatKeepsRules, AcceptedFillsArrays}
 use Rattle.casefile.proofs.StoredLaws.{array-member}

@@ -5,8 +5,6 @@ use mathlib.Core.List.{List}
 use mathlib.Core.Bool.{Bool, true, false, cond}
 use lib.ListN.{length}
 use lib.Dec.{ltb}
-use Rattle.plan.specs.declared.Plan.{Plan}
-use Rattle.plan.specs.declared.Member.{Member}
 use Rattle.casefile.specs.Split.{linesPast}
 use Rattle.casefile.specs.Outcome.{Outcome, values, refusal, andThen}
 use Rattle.casefile.specs.Heading.{headOf, planOf}

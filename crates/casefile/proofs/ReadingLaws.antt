@@ -23,7 +23,7 @@ use Rattle.casefile.specs.Outcome.{Outcome, values, refusal}
 use Rattle.casefile.specs.Heading.{termOf, termRule, formulaFrom, afterTerm, headOf}
 use Rattle.casefile.specs.Rows.{rowOf, rowRule, afterRow, rowsOf}
 use Rattle.casefile.specs.Members.{endMade, tailOf, afterTail, membersOf}
-use Rattle.casefile.specs.Answers.{FormNumber, too-long, cut, tail, count, plan-form, member-form, surplus}
+use Rattle.casefile.specs.Answers.{FormNumber, cut, tail, count, plan-form, member-form, surplus}
 use Rattle.casefile.proofs.RangeLaws.{Ranged, row-ranged, member-ranged, term-ranged}
 use Rattle.casefile.proofs.OrderLaws.{Only, only-prepend, only-weaker, Later, Sooner, line-sooner}
 

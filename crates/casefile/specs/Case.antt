@@ -54,11 +54,12 @@ accepting (refusal number line) = AcceptingRefused number line
 abbrev pub nobody : Member
 nobody = record { id = 0; entry = 0; age = 0; salary = 0 }
 
--- the id of the member before member j, 0 for the first
+-- "id 1 to 999999999 and above the one before": the id of the member before member j, 0 for the first
 abbrev pub idBefore : List Member → ℕ → ℕ
 idBefore l zero = 0
 idBefore l (suc j) = (getD l j nobody) .id
 
+-- "Accepting settles ranges too": every range rule is kept, by the plan with its rows and by each member after the one before it
 pub record AcceptedCase (c : Case) : Type 0 where
   pub plan : planRefusal (c .plan) (c .rows) ≡ 0
   pub ages : length (c .rows) ≡ 106

@@ -13,7 +13,7 @@ use Rattle.casefile.specs.Split.{hasOf, uptoOf, pastOf, startsOf, sameOf
 use Rattle.casefile.specs.Numbers.{wholeOf, amountOf}
 use Rattle.casefile.specs.Outcome.{Outcome, values, refusal, prepend, passing, settled}
 
--- a key and a whole number; a key and an amount
+-- "10 lines 1 to 114: wrong key, form [..]": a key, and after it a whole number or an amount up to the line's end
 unfoldable pub keyedOf : List ℕ → List ℕ → Number
 keyedOf key s = cond (startsOf key s) (wholeOf (drop (length key) s)) Malformed
 
@@ -48,7 +48,8 @@ termOf k s =
     (cond (eqb k 7) (keyedAmountOf (bytes "assets=") s)
     (cond (eqb k 8) (keyedOf (bytes "years=") s) Malformed)))))))
 
--- the range rule of line k, after the formula of line 3
+-- "11 a number outside its range (average and weight excepted); 12 average doesn't suit the formula": the range rule of line k, after
+-- the formula of line 3. The words of lines 3 and 6 are form, so that their rules refuse none
 unfoldable pub termRule : (k formula v : ℕ) → ℕ
 termRule k formula v =
     cond (eqb k 1) (interestRule v)
@@ -60,6 +61,7 @@ termRule k formula v =
     (cond (eqb k 7) (assetsRule v)
     (yearsRule v)))))))
 
+-- the formula that the lines up to k give
 abbrev pub formulaFrom : (k formula v : ℕ) → ℕ
 formulaFrom k formula v = cond (eqb k 3) v formula
 
@@ -77,7 +79,7 @@ headOf ranges (suc n) k formula s =
     (afterTerm ranges k formula (termOf k (uptoOf 10 s)) (λ f. headOf ranges n (k + 1) f (pastOf 10 s)))
     (refusal 2 k)
 
--- the eight values as a plan
+-- "Lines 1 to 8, in this order: interest=, retire=, formula=, unit=, average=, method=, assets=, years=": their values as a plan
 abbrev pub planOf : List ℕ → Plan
 planOf t =
     record {

@@ -21,8 +21,8 @@ use Rattle.casefile.specs.Outcome.{Outcome, values, refusal, prepend, pa
 
 -- three whole numbers and an amount, with commas between
 abbrev pub memberMade : Three → Number → Tail
-memberMade (Found i y x) (Value s) = OfMember (record { id = i; entry = y; age = x; salary = s })
-memberMade (Found i y x) Malformed = Neither
+memberMade (Found id entry age) (Value salary) = OfMember (record { id = id; entry = entry; age = age; salary = salary })
+memberMade (Found id entry age) Malformed = Neither
 memberMade NotThree n = Neither
 
 unfoldable pub memberOf : List ℕ → Tail
@@ -47,6 +47,7 @@ endOf n count rest =
     (refusal 4 (count + 115))
 
 module _ (ranges : Bool) (p : Plan) (rows : List (List ℕ)) where
+  -- "20 neither a member nor an end line, or its form is wrong"; "27 a line beginning member= after 1,000 members"; and a member's ranges.
   -- `before` is the id of the member before, 0 for the first; `rest` is what follows the line
   abbrev pub afterTail : (count before : ℕ) → Tail → List ℕ → (Member → Outcome (List Member)) → Outcome (List Member)
   afterTail count before (OfMember m) rest more =
@@ -55,7 +56,8 @@ module _ (ranges : Bool) (p : Plan) (rows : List (List ℕ)) where
   afterTail count before Surplus rest more = refusal 27 (count + 115)
   afterTail count before Neither rest more = refusal 20 (count + 115)
 
-  -- the lines after `count` members, with room for `left` more. "in a line 2, 27, then rising number"
+  -- the lines after `count` members, with room for `left` more. "in a line 2, 27, then rising number". With no room left no line is a
+  -- member's, so nothing is asked of what follows one
   unfoldable pub membersOf : (left count before : ℕ) → List ℕ → Outcome (List Member)
   membersOf zero count before s =
       cond (hasOf 10 s)

@@ -20,8 +20,8 @@ use Rattle.casefile.specs.Outcome.{Outcome, values, refusal, prepend, pa
 
 -- three rates and the weight
 abbrev pub rowMade : Three → Number → RowForm
-rowMade (Found d w i) (Value z) = Rates d w i z
-rowMade (Found d w i) Malformed = Wrong
+rowMade (Found death withdrawal disability) (Value weight) = Rates death withdrawal disability weight
+rowMade (Found death withdrawal disability) Malformed = Wrong
 rowMade NotThree n = Wrong
 
 -- the four numbers after the age, with commas between
@@ -38,20 +38,21 @@ unfoldable pub rowOf : ℕ → List ℕ → RowForm
 rowOf age s = cond (startsOf (bytes "row=") s && isAge (wholeOf (uptoOf 44 (drop 4 s))) age) (ratesOf (pastOf 44 (drop 4 s))) Wrong
 
 -- the range rules of a row, its numbers as wide as they stand in the line; `before` is the weight of the age before, 0 where there is none
-abbrev pub rowRule : (age before d w i z : ℕ) → ℕ
-rowRule age before d w i z =
-    firstOf (rowRules age before (record { death = d; withdrawal = w; disability = i; weight = z }))
+abbrev pub rowRule : (age before death withdrawal disability weight : ℕ) → ℕ
+rowRule age before death withdrawal disability weight =
+    firstOf (rowRules age before (record { death = death; withdrawal = withdrawal; disability = disability; weight = weight }))
 
 -- "10 lines 1 to 114: wrong key, form, word or row age", and then the ranges. The row of age 15 is line 9
 abbrev pub afterRow : (ranges : Bool) → (age before : ℕ) → RowForm → (ℕ → Outcome (List (List ℕ))) → Outcome (List (List ℕ))
 afterRow ranges age before Wrong more = refusal 10 (age - 6)
-afterRow ranges age before (Rates d w i z) more =
-    passing (settled ranges (rowRule age before d w i z)) (age - 6) (prepend ((d ∷ w ∷ i ∷ z ∷ []) ∷ []) (more z))
+afterRow ranges age before (Rates death withdrawal disability weight) more =
+    passing (settled ranges (rowRule age before death withdrawal disability weight)) (age - 6)
+    (prepend ((death ∷ withdrawal ∷ disability ∷ weight ∷ []) ∷ []) (more weight))
 
 -- n rows, the first of them that of the age
 unfoldable pub rowsOf : (ranges : Bool) → (n age before : ℕ) → List ℕ → Outcome (List (List ℕ))
 rowsOf ranges zero age before s = values []
 rowsOf ranges (suc n) age before s =
     cond (hasOf 10 s)
-    (afterRow ranges age before (rowOf age (uptoOf 10 s)) (λ z. rowsOf ranges n (age + 1) z (pastOf 10 s)))
+    (afterRow ranges age before (rowOf age (uptoOf 10 s)) (λ weight. rowsOf ranges n (age + 1) weight (pastOf 10 s)))
     (refusal 2 (age - 6))

@@ -57,16 +57,24 @@ fn row_line(s: &[u8], age: u64) -> RowForm
 }
 
 // The range rules of a row where the ranges are settled: a number, 0 for none.
-fn row_refusal(ranges: bool, age: u64, before: u64, d: u64, w: u64, i: u64, z: u64) -> u64
-    requires { ⌜ (d < 1000000000000) × (w < 1000000000000) × (i < 1000000000000) ⌝ }
-    ensures { λ r. ⌜ r ≡ settled ranges (rowRule age before d w i z) ⌝ }
+fn row_refusal(
+    ranges: bool,
+    age: u64,
+    before: u64,
+    death: u64,
+    withdrawal: u64,
+    disability: u64,
+    weight: u64,
+) -> u64
+    requires { ⌜ (death < 1000000000000) × (withdrawal < 1000000000000) × (disability < 1000000000000) ⌝ }
+    ensures { λ r. ⌜ r ≡ settled ranges (rowRule age before death withdrawal disability weight) ⌝ }
 {
     if ranges {
         let row = Row {
-            death: d,
-            withdrawal: w,
-            disability: i,
-            weight: z,
+            death,
+            withdrawal,
+            disability,
+            weight,
         };
         row_rule(age as usize, before, row)
     } else {
@@ -108,15 +116,28 @@ pub fn row_lines(s: &[u8], ranges: bool, table: &mut [[u32; 4]; 106]) -> Table
             return Table::Refused(2, here);
         }
         match row_line(line(rest, e), age) {
-            RowForm::Rates(d, w, i, z) => {
-                let refusal = row_refusal(ranges, age, before, d, w, i, z);
+            RowForm::Rates(death, withdrawal, disability, weight) => {
+                let refusal = row_refusal(
+                    ranges,
+                    age,
+                    before,
+                    death,
+                    withdrawal,
+                    disability,
+                    weight,
+                );
                 if refusal != 0 {
                     return Table::Refused(refusal, here);
                 }
                 let k = (age - 15) as usize;
-                let row = [narrow(d), narrow(w), narrow(i), narrow(z)];
+                let row = [
+                    narrow(death),
+                    narrow(withdrawal),
+                    narrow(disability),
+                    narrow(weight),
+                ];
                 table[k] = row;
-                before = z;
+                before = weight;
             }
             RowForm::Wrong => {
                 return Table::Refused(10, here);

@@ -39,16 +39,16 @@ line-requires c κs = search needs
 row-line-requires : tie.Need-row-line-requires Inv-loop μ-loop
 row-line-requires c κs = search needs
 
-enum-known-d : tie.Need-enum-known-d Inv-loop μ-loop
-enum-known-d c = search needs
+enum-known-death : tie.Need-enum-known-death Inv-loop μ-loop
+enum-known-death c = search needs
 
 row-refusal-requires : tie.Need-row-refusal-requires Inv-loop μ-loop
-row-refusal-requires c κs = row-small _ _ (c .before .before .before .row-line .ensures) (c .before .d .given .1)
+row-refusal-requires c κs = row-small _ _ (c .before .before .before .row-line .ensures) (c .before .death .given .1)
 
 returns-2 : tie.Need-returns-2 Inv-loop μ-loop
 returns-2 c =
     let at = c .before .before .before .before .before .before .before .before .before .before .loop in
-    refused-after _ (at .inv .3) (rows-refused _ _ _ _ _ (c .before .before .before .before .before .before .before .before .before .loop-test .taken) (c .before .before .before .before .before .before .before .before .seek .ensures) (c .before .before .before .before .before .before .before .if1 .left) (c .before .before .before .before .before .before .line .ensures) (c .before .before .before .before .before .row-line .ensures) (c .before .before .before .d .given .1) (c .before .row-refusal .ensures) (c .if2 .taken))
+    refused-after _ (at .inv .3) (rows-refused _ _ _ _ _ (c .before .before .before .before .before .before .before .before .before .loop-test .taken) (c .before .before .before .before .before .before .before .before .seek .ensures) (c .before .before .before .before .before .before .before .if1 .left) (c .before .before .before .before .before .before .line .ensures) (c .before .before .before .before .before .row-line .ensures) (c .before .before .before .death .given .1) (c .before .row-refusal .ensures) (c .if2 .taken))
 
 sub-k : tie.Need-sub-k Inv-loop μ-loop
 sub-k c = search needs
@@ -94,7 +94,7 @@ loop-less c = search needs
 loop-again : tie.Need-loop-again Inv-loop μ-loop
 loop-again c =
     let at = c .before .before .before .before .before .before .before .before .before .before .before .before .before .before .before .loop in
-    (omega arith, omega arith, simp length-set (at .inv .2), rows-stored _ _ _ _ _ (c .before .before .before .before .before .before .before .before .before .before .before .before .before .before .loop-test .taken) (c .before .before .before .before .before .before .before .before .before .before .before .before .before .seek .ensures) (c .before .before .before .before .before .before .before .before .before .before .before .before .if1 .left) (c .before .before .before .before .before .before .before .before .before .before .before .line .ensures) (c .before .before .before .before .before .before .before .before .before .before .row-line .ensures) (c .before .before .before .before .before .before .before .before .d .given .1) (c .before .before .before .before .before .before .row-refusal .ensures) (at .table) (omega arith) (omega arith) (at .inv .3) (c .before .before .before .before .before .if2 .left) (c .after-line .ensures) (c .before .before .before .before .narrow .ensures) (c .before .before .before .narrow2 .ensures) (c .before .before .narrow3 .ensures) (c .before .narrow4 .ensures))
+    (omega arith, omega arith, simp length-set (at .inv .2), rows-stored _ _ _ _ _ (c .before .before .before .before .before .before .before .before .before .before .before .before .before .before .loop-test .taken) (c .before .before .before .before .before .before .before .before .before .before .before .before .before .seek .ensures) (c .before .before .before .before .before .before .before .before .before .before .before .before .if1 .left) (c .before .before .before .before .before .before .before .before .before .before .before .line .ensures) (c .before .before .before .before .before .before .before .before .before .before .row-line .ensures) (c .before .before .before .before .before .before .before .before .death .given .1) (c .before .before .before .before .before .before .row-refusal .ensures) (at .table) (omega arith) (omega arith) (at .inv .3) (c .before .before .before .before .before .if2 .left) (c .after-line .ensures) (c .before .before .before .before .narrow .ensures) (c .before .before .before .narrow2 .ensures) (c .before .before .narrow3 .ensures) (c .before .narrow4 .ensures))
 
 returns-4 : tie.Need-returns-4 Inv-loop μ-loop
 returns-4 c =
@@ -113,7 +113,7 @@ row-lines-spec =
     returns
     line-requires
     row-line-requires
-    enum-known-d
+    enum-known-death
     row-refusal-requires
     returns-2
     sub-k
