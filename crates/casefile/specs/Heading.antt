@@ -79,7 +79,7 @@ headOf ranges (suc n) k formula s =
     (afterTerm ranges k formula (termOf k (uptoOf 10 s)) (λ f. headOf ranges n (k + 1) f (pastOf 10 s)))
     (refusal 2 k)
 
--- "Lines 1 to 8, in this order: interest=, retire=, formula=, unit=, average=, method=, assets=, years=": their values as a plan
+-- "Lines 1 to 8, in this order": interest, retire, formula, unit, average, method, assets and years, as a plan
 abbrev pub planOf : List ℕ → Plan
 planOf t =
     record {
