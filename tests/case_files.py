@@ -14,7 +14,7 @@ from collections import Counter
 from pathlib import Path
 
 import commands
-from case_oracle import Refused, reading, walk
+from case_oracle import Refused, accepting, reading, walk
 from oracle import AGES, short_table
 
 ROOT = Path(__file__).parent.parent
@@ -86,6 +86,28 @@ def many(count):
     return file(heading(), short_table(), [member(j + 1) for j in range(count)])
 
 
+def after_a_thousand():
+    """What can stand where line 1,115 is due: 2 comes before 27, and 27 before 20."""
+    full = many(1000)
+    full = full[:full.rindex(b'end=')]
+    return [full + rest for rest in (b'member=junk\n', b'member=\n', b'member=1001,63,64,0.00', b'member=', b'membe',
+                                     b'x\n', b'', b'end=1000', b'end=1000\n', b'end=1001\n', b'end=x\n')]
+
+
+def worked():
+    """The refusals that document 01 works by hand, each with what reading and accepting must say."""
+    level = {age: (death, 0, 0, 1000) for age, (death, *_) in short_table().items()}
+    final = heading(formula='final', unit='500', average='1')
+    yield b'', (2, 1), (2, 1)
+    yield file(heading(), level, []), None, None
+    yield file(heading(retire='49'), level, []), None, (11, 2)
+    yield file(heading(retire='76'), level, []), None, (11, 2)
+    yield file(heading(), {**level, 15: (0, 0, 0, 999)}, []), None, (15, 9)
+    yield file(heading(), {**level, 30: (400000, 300000, 300001, 1000)}, []), None, (13, 24)
+    yield file(heading(), level, [member(7, salary='4125.50.75')]), (20, 115), (20, 115)
+    yield file(final, level, [member(7, 44, 64, '1000000.00')]), None, (25, 115)
+
+
 def filled(size):
     """A file of just so many bytes, which is no case for what follows its end."""
     case = good_files()[0]
@@ -148,7 +170,8 @@ def all_files():
     for case in (small, *others[1:]):
         files += damaged(case)
         files += stray_bytes(case, rng, 300)
-    files += [many(count) for count in (2, 999, 1000, 1001, 1002)]
+    files += [many(count) for count in (2, 999, 1000, 1001, 1002)] + after_a_thousand()
+    files += [case for case, _, _ in worked()]
     files += [filled(size) for size in (65535, 65536, 65537, 70000)]
     return files
 
@@ -192,6 +215,9 @@ def numbers_of(lines):
 
 
 def check():
+    for case, *said in worked():
+        if [reading(case), accepting(case)] != said:
+            sys.exit(f'case_files: a refusal worked by hand is not {said}')
     files = all_files()
     said = subprocess.run([PROGRAM], input=given(files), stdout=subprocess.PIPE, check=True).stdout.decode().split('\n')
     expected = [line for case in files for line in answers(case)]

@@ -1,6 +1,7 @@
 -- The laws, from single bytes up to the whole file; Theorems, Accepted and Examples are what a reader looks for.
 pub mod Laws
 pub mod FieldLaws
+pub mod QuickLaws
 pub mod OutcomeLaws
 pub mod HeadLaws
 pub mod RowLaws

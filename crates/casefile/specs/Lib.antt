@@ -10,3 +10,4 @@ pub mod Members
 pub mod Case
 pub mod Stored
 pub mod Answers
+pub mod Quick

@@ -1,10 +1,12 @@
 // The case file of a valuation: document 01, 'The case file'. Reading settles its form, accepting its ranges too. The
 // walk is one, line by line: heading.rt, rows.rt, members.rt, over text.rt and numbers.rt. Every answer is an equation
-// with a definition of specs/ on the list of the bytes; the range rules are the plan crate's. The entries are read_case
-// and accept_case: two words, two functions, two answers. Neither has a `requires`.
+// with a definition of specs/ on the list of the bytes; quick.rt alone may leave a line to the others. The range rules
+// are the plan crate's. The entries are read_case and accept_case: two words, two functions, two answers. Neither has a
+// `requires`.
 mod heading;
 mod members;
 mod numbers;
+mod quick;
 mod rows;
 mod text;
 
@@ -28,7 +30,8 @@ enum Walk {
     Refused(u64, u64),
 }
 
-// One walk over the lines, for their form alone or for their ranges too.
+// One walk over the lines, for their form alone or for their ranges too. The two arrays are left open after a refusal, and
+// where the ranges are not settled.
 fn walk_lines(
     case: &[u8],
     ranges: bool,

@@ -5,6 +5,8 @@ use crate::numbers::amount;
 use crate::numbers::fourth;
 use crate::numbers::three_fields;
 use crate::numbers::whole;
+use crate::quick::Quick;
+use crate::quick::quick_member;
 use crate::text::after_line;
 use crate::text::line;
 use crate::text::seek;
@@ -19,6 +21,7 @@ ghost use Prim.Native.Nat.{_<_, _≤_};
 ghost use Rattle.plan.specs.Acceptance.{planRefusal, memberRefusal};
 ghost use Rattle.casefile.specs.Outcome.{values, settled};
 ghost use Rattle.casefile.specs.Members.{memberOf, tailOf, endOf, membersOf};
+ghost use Rattle.casefile.specs.Quick.{NextIs};
 ghost use Rattle.casefile.specs.Stored.{arrayOf, storedAt, counted, ended};
 
 // What a line after the rows holds.
@@ -64,6 +67,36 @@ fn tail_line(s: &[u8], full: bool) -> Tail
         }
     } else {
         Tail::Neither
+    }
+}
+
+// The next line and the place of its byte 10; or it is cut off before one.
+pub enum Next {
+    Line(Tail, usize),
+    Cut,
+}
+
+// The next line, whatever it holds: its end first, and then its parts.
+fn careful_line(s: &[u8], full: bool) -> Next
+    ensures { λ r. ⌜ NextIs r (tailOf full) (now (s .entry)) ⌝ }
+{
+    let e = seek(s, 10);
+    if s.len() <= e {
+        return Next::Cut;
+    }
+    Next::Line(tail_line(line(s, e), full), e)
+}
+
+// The next line, in one pass where it is a member of the right form.
+fn next_line(s: &[u8], full: bool) -> Next
+    ensures { λ r. ⌜ NextIs r (tailOf full) (now (s .entry)) ⌝ }
+{
+    if full {
+        return careful_line(s, full);
+    }
+    match quick_member(s) {
+        Quick::Good(m, e) => Next::Line(Tail::OfMember(m), e),
+        Quick::Other => careful_line(s, full),
     }
 }
 
@@ -113,7 +146,7 @@ fn ending(n: u64, count: u64, rest: &[u8]) -> Count
     }
 }
 
-// Reads the members into the array, and the end.
+// Reads the members into the array, and the end. After a refusal the array is left open.
 pub fn member_lines(
     s: &[u8],
     ranges: bool,
@@ -133,11 +166,10 @@ pub fn member_lines(
     let mut before: u64 = 0;
     loop {
         let here = count + 115;
-        let e = seek(rest, 10);
-        if rest.len() <= e {
+        let Next::Line(tail, e) = next_line(rest, left == 0) else {
             return Count::Refused(2, here);
-        }
-        match tail_line(line(rest, e), left == 0) {
+        };
+        match tail {
             Tail::OfMember(m) => {
                 let refusal = member_refusal(ranges, p, rows, before, m);
                 if refusal != 0 {

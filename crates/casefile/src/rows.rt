@@ -4,6 +4,8 @@ use crate::numbers::Three;
 use crate::numbers::fourth;
 use crate::numbers::three_fields;
 use crate::numbers::whole;
+use crate::quick::QuickRow;
+use crate::quick::quick_row;
 use crate::text::after_line;
 use crate::text::line;
 use crate::text::past;
@@ -16,6 +18,7 @@ ghost use mathlib.Core.Path.{_≡_};
 ghost use Prim.Native.Nat.{_<_};
 ghost use Rattle.casefile.specs.Outcome.{settled};
 ghost use Rattle.casefile.specs.Rows.{ratesOf, rowOf, rowRule, rowsOf};
+ghost use Rattle.casefile.specs.Quick.{NextRowIs};
 ghost use Rattle.casefile.specs.Stored.{narrowOf, tabled, in32};
 
 // What a row's line holds: its numbers, as wide as they stand there, or a wrong form.
@@ -53,6 +56,35 @@ fn row_line(s: &[u8], age: u64) -> RowForm
         }
     } else {
         RowForm::Wrong
+    }
+}
+
+// The next line and the place of its byte 10; or it is cut off before one.
+pub enum NextRow {
+    Line(RowForm, usize),
+    Cut,
+}
+
+// The next line, whatever it holds: its end first, and then its parts.
+fn careful_row(s: &[u8], age: u64) -> NextRow
+    ensures { λ r. ⌜ NextRowIs r (rowOf age) (now (s .entry)) ⌝ }
+{
+    let e = seek(s, 10);
+    if s.len() <= e {
+        return NextRow::Cut;
+    }
+    NextRow::Line(row_line(line(s, e), age), e)
+}
+
+// The next line, in one pass where it is the age's row in the right form.
+fn next_row(s: &[u8], age: u64) -> NextRow
+    ensures { λ r. ⌜ NextRowIs r (rowOf age) (now (s .entry)) ⌝ }
+{
+    match quick_row(s, age) {
+        QuickRow::Good(death, withdrawal, disability, weight, e) => {
+            NextRow::Line(RowForm::Rates(death, withdrawal, disability, weight), e)
+        }
+        QuickRow::Other => careful_row(s, age),
     }
 }
 
@@ -99,7 +131,7 @@ pub enum Table {
     Refused(u64, u64),
 }
 
-// Reads the 106 rows into the table, up to the first that is refused.
+// Reads the 106 rows into the table, up to the first that is refused. After a refusal the table is left open.
 pub fn row_lines(s: &[u8], ranges: bool, table: &mut [[u32; 4]; 106]) -> Table
     ensures { λ r. ⌜ in32 (rowsOf ranges 106 15 0 (now (s .entry))) ≡ tabled r (now (table .exit)) ⌝ }
 {
@@ -111,11 +143,10 @@ pub fn row_lines(s: &[u8], ranges: bool, table: &mut [[u32; 4]; 106]) -> Table
     let mut before: u64 = 0;
     while 0 < left {
         let here = age - 6;
-        let e = seek(rest, 10);
-        if rest.len() <= e {
+        let NextRow::Line(form, e) = next_row(rest, age) else {
             return Table::Refused(2, here);
-        }
-        match row_line(line(rest, e), age) {
+        };
+        match form {
             RowForm::Rates(death, withdrawal, disability, weight) => {
                 let refusal = row_refusal(
                     ranges,

@@ -9,6 +9,7 @@ use Rattle.casefile.specs.Stored.{words, arrayOf}
 use Rattle.casefile.proofs.OutcomeLaws.{prepend-nil}
 use Rattle.casefile.proofs.StoredLaws.{Filled, filled-next, filled-refused}
 use Rattle.casefile.proofs.MemberLaws.{room, members-cut, members-neither, members-surplus, members-end, members-refused, members-go}
+use Rattle.casefile.proofs.QuickLaws.{is-line, is-cut}
 use Rattle.casefile.proofs.members.member_lines.Statement.{statement}
 use Rattle.casefile.proofs.members.member_lines.Tie as tie
 
@@ -26,53 +27,61 @@ loop-holds c = (search needs, record { members = []; many = refl; array = refl; 
 add-here : tie.Need-add-here Inv-loop μ-loop
 add-here c = search needs
 
-seek-requires : tie.Need-seek-requires Inv-loop μ-loop
-seek-requires c κs = search needs
+next-line-requires : tie.Need-next-line-requires Inv-loop μ-loop
+next-line-requires c κs = search needs
+
+enum-known-tail : tie.Need-enum-known-tail Inv-loop μ-loop
+enum-known-tail c = search needs
+
+enum-told : tie.Need-enum-told Inv-loop μ-loop
+enum-told c = search needs
 
 returns : tie.Need-returns Inv-loop μ-loop
-returns c = filled-refused (c .before .before .loop .inv .1) (members-cut _ _ _ _ _ _ _ (c .before .seek .ensures) (c .if1 .taken))
+returns c = filled-refused (c .before .before .before .loop .inv .1) (members-cut _ _ _ _ _ _ _ refl (is-cut _ _ (c .enum-told .given .1) (c .before .before .next-line .ensures)))
 
-line-requires : tie.Need-line-requires Inv-loop μ-loop
-line-requires c κs = search needs
-
-tail-line-requires : tie.Need-tail-line-requires Inv-loop μ-loop
-tail-line-requires c κs = search needs
-
-enum-known-m : tie.Need-enum-known-m Inv-loop μ-loop
-enum-known-m c = search needs
+enum-known-tail-2 : tie.Need-enum-known-tail-2 Inv-loop μ-loop
+enum-known-tail-2 c = search needs
 
 member-refusal-requires : tie.Need-member-refusal-requires Inv-loop μ-loop
 member-refusal-requires c κs = c .before .before .before .before .before .before .before .before .before .before .pre
 
 returns-2 : tie.Need-returns-2 Inv-loop μ-loop
-returns-2 c = filled-refused (c .before .before .before .before .before .before .before .before .before .loop .inv .1) (members-refused _ _ _ _ _ _ _ (c .before .before .before .before .before .before .before .before .seek .ensures) (c .before .before .before .before .before .before .before .if1 .left) (c .before .before .before .before .before .before .line .ensures) (c .before .before .before .before .before .tail-line .ensures) (c .before .before .before .m .given .1) (c .before .member-refusal .ensures) (c .if2 .taken))
+returns-2 c =
+    let l = is-line (c .before .before .before .before .before .before .tail .given .1) (c .before .before .before .before .before .before .before .before .next-line .ensures) in
+    filled-refused (c .before .before .before .before .before .before .before .before .before .loop .inv .1) (members-refused _ _ _ _ _ _ _ (l .found) (l .whole) refl (l .read) (c .before .before .before .tail2 .given .1) (c .before .member-refusal .ensures) (c .if1 .taken))
 
 put-requires : tie.Need-put-requires Inv-loop μ-loop
-put-requires c κs = omega (arith, room (c .before .before .before .before .before .before .before .before .before .before .loop .left) _ (c .before .before .before .before .before .before .tail-line .ensures) (c .before .before .before .before .m .given .1))
+put-requires c κs = omega (arith, room (c .before .before .before .before .before .before .before .before .before .before .loop .left) _ (is-line (c .before .before .before .before .before .before .before .tail .given .1) (c .before .before .before .before .before .before .before .before .before .next-line .ensures) .read) (c .before .before .before .before .tail2 .given .1))
 
 after-line-requires : tie.Need-after-line-requires Inv-loop μ-loop
-after-line-requires c κs = search needs
+after-line-requires c κs =
+    let l = is-line (c .before .before .before .before .before .before .before .before .tail .given .1) (c .before .before .before .before .before .before .before .before .before .before .next-line .ensures) in
+    (l .found, l .whole)
 
 add-count : tie.Need-add-count Inv-loop μ-loop
-add-count c = omega (arith, room (c .before .before .before .before .before .before .before .before .before .before .before .before .loop .left) _ (c .before .before .before .before .before .before .before .before .tail-line .ensures) (c .before .before .before .before .before .before .m .given .1))
+add-count c = omega (arith, room (c .before .before .before .before .before .before .before .before .before .before .before .before .loop .left) _ (is-line (c .before .before .before .before .before .before .before .before .before .tail .given .1) (c .before .before .before .before .before .before .before .before .before .before .before .next-line .ensures) .read) (c .before .before .before .before .before .before .tail2 .given .1))
 
 sub-left : tie.Need-sub-left Inv-loop μ-loop
-sub-left c = omega (arith, room (c .before .before .before .before .before .before .before .before .before .before .before .before .loop .left) _ (c .before .before .before .before .before .before .before .before .tail-line .ensures) (c .before .before .before .before .before .before .m .given .1))
+sub-left c = omega (arith, room (c .before .before .before .before .before .before .before .before .before .before .before .before .loop .left) _ (is-line (c .before .before .before .before .before .before .before .before .before .tail .given .1) (c .before .before .before .before .before .before .before .before .before .before .before .next-line .ensures) .read) (c .before .before .before .before .before .before .tail2 .given .1))
 
 loop-less : tie.Need-loop-less Inv-loop μ-loop
-loop-less c = omega (arith, room (c .before .before .before .before .before .before .before .before .before .before .before .before .loop .left) _ (c .before .before .before .before .before .before .before .before .tail-line .ensures) (c .before .before .before .before .before .before .m .given .1))
+loop-less c = omega (arith, room (c .before .before .before .before .before .before .before .before .before .before .before .before .loop .left) _ (is-line (c .before .before .before .before .before .before .before .before .before .tail .given .1) (c .before .before .before .before .before .before .before .before .before .before .before .next-line .ensures) .read) (c .before .before .before .before .before .before .tail2 .given .1))
 
 loop-again : tie.Need-loop-again Inv-loop μ-loop
 loop-again c =
     let at = c .before .before .before .before .before .before .before .before .before .before .before .before .loop in
-    let space = room (at .left) _ (c .before .before .before .before .before .before .before .before .tail-line .ensures) (c .before .before .before .before .before .before .m .given .1) in
-    (omega arith, filled-next (at .inv .1) _ _ (members-go _ _ _ _ _ _ _ (c .before .before .before .before .before .before .before .before .before .before .before .seek .ensures) (c .before .before .before .before .before .before .before .before .before .before .if1 .left) (c .before .before .before .before .before .before .before .before .before .line .ensures) (c .before .before .before .before .before .before .before .before .tail-line .ensures) (c .before .before .before .before .before .before .m .given .1) (c .before .before .before .before .member-refusal .ensures) (c .before .before .before .if2 .left) (c .after-line .ensures)) (c .before .put .ensures))
+    let l = is-line (c .before .before .before .before .before .before .before .before .before .tail .given .1) (c .before .before .before .before .before .before .before .before .before .before .before .next-line .ensures) in
+    let is = c .before .before .before .before .before .before .tail2 .given .1 in
+    let space = room (at .left) _ (l .read) is in
+    (omega arith, filled-next (at .inv .1) _ _ (members-go _ _ _ _ _ _ _ (l .found) (l .whole) refl (l .read) is (c .before .before .before .before .member-refusal .ensures) (c .before .before .before .if1 .left) (c .after-line .ensures)) (c .before .put .ensures))
 
-enum-known-n : tie.Need-enum-known-n Inv-loop μ-loop
-enum-known-n c = search needs
+enum-known-tail-3 : tie.Need-enum-known-tail-3 Inv-loop μ-loop
+enum-known-tail-3 c = search needs
 
 after-line-requires-2 : tie.Need-after-line-requires-2 Inv-loop μ-loop
-after-line-requires-2 c κs = search needs
+after-line-requires-2 c κs =
+    let l = is-line (c .before .before .before .before .tail .given .1) (c .before .before .before .before .before .before .next-line .ensures) in
+    (l .found, l .whole)
 
 ending-requires : tie.Need-ending-requires Inv-loop μ-loop
 ending-requires c κs = search needs
@@ -80,19 +89,24 @@ ending-requires c κs = search needs
 returns-3 : tie.Need-returns-3 Inv-loop μ-loop
 returns-3 c =
     let at = c .before .before .before .before .before .before .before .before .before .loop in
-    members-end _ _ _ _ _ _ _ (c .before .before .before .before .before .before .before .before .seek .ensures) (c .before .before .before .before .before .before .before .if1 .left) (c .before .before .before .before .before .before .line .ensures) (c .before .before .before .before .before .tail-line .ensures) (at .inv .1) (c .before .before .before .n .given .1) (c .before .after-line2 .ensures) (c .ending .ensures)
-
-enum-told : tie.Need-enum-told Inv-loop μ-loop
-enum-told c = search needs
-
-returns-4 : tie.Need-returns-4 Inv-loop μ-loop
-returns-4 c = filled-refused (c .before .before .before .before .before .before .loop .inv .1) (members-surplus _ _ _ _ _ _ _ (c .before .before .before .before .before .seek .ensures) (c .before .before .before .before .if1 .left) (c .before .before .before .line .ensures) (c .before .before .tail-line .ensures) (c .enum-told .given .1))
+    let l = is-line (c .before .before .before .before .before .before .tail .given .1) (c .before .before .before .before .before .before .before .before .next-line .ensures) in
+    members-end _ _ _ _ _ _ _ (l .found) (l .whole) refl (l .read) (at .inv .1) (c .before .before .before .tail3 .given .1) (c .before .after-line2 .ensures) (c .ending .ensures)
 
 enum-told-2 : tie.Need-enum-told-2 Inv-loop μ-loop
 enum-told-2 c = search needs
 
+returns-4 : tie.Need-returns-4 Inv-loop μ-loop
+returns-4 c =
+    let l = is-line (c .before .before .before .tail .given .1) (c .before .before .before .before .before .next-line .ensures) in
+    filled-refused (c .before .before .before .before .before .before .loop .inv .1) (members-surplus _ _ _ _ _ _ _ (l .found) (l .whole) refl (l .read) (c .enum-told2 .given .1))
+
+enum-told-3 : tie.Need-enum-told-3 Inv-loop μ-loop
+enum-told-3 c = search needs
+
 returns-5 : tie.Need-returns-5 Inv-loop μ-loop
-returns-5 c = filled-refused (c .before .before .before .before .before .before .loop .inv .1) (members-neither _ _ _ _ _ _ _ (c .before .before .before .before .before .seek .ensures) (c .before .before .before .before .if1 .left) (c .before .before .before .line .ensures) (c .before .before .tail-line .ensures) (c .enum-told2 .given .1))
+returns-5 c =
+    let l = is-line (c .before .before .before .tail .given .1) (c .before .before .before .before .before .next-line .ensures) in
+    filled-refused (c .before .before .before .before .before .before .loop .inv .1) (members-neither _ _ _ _ _ _ _ (l .found) (l .whole) refl (l .read) (c .enum-told3 .given .1))
 
 pub member-lines-spec : {M : Type 1} → statement M
 member-lines-spec =
@@ -102,11 +116,11 @@ member-lines-spec =
     μ-loop
     loop-holds
     add-here
-    seek-requires
+    next-line-requires
+    enum-known-tail
+    enum-told
     returns
-    line-requires
-    tail-line-requires
-    enum-known-m
+    enum-known-tail-2
     member-refusal-requires
     returns-2
     put-requires
@@ -115,11 +129,11 @@ member-lines-spec =
     sub-left
     loop-less
     loop-again
-    enum-known-n
+    enum-known-tail-3
     after-line-requires-2
     ending-requires
     returns-3
-    enum-told
-    returns-4
     enum-told-2
+    returns-4
+    enum-told-3
     returns-5)

@@ -1,6 +1,6 @@
 -- `casefile::rows::row_lines` meets its contract.
 use Prim.Native.Nat.{_+_, _-_, _≤_}
-use mathlib.Core.Path.{_≡_}
+use mathlib.Core.Path.{_≡_, refl}
 use lib.ListN.{length, take, length-set}
 use native.Mathlib.Omega.{arith}
 use borrow.Author.Needs.{needs}
@@ -9,6 +9,7 @@ use Rattle.casefile.specs.Rows.{rowsOf}
 use Rattle.casefile.specs.Stored.{in32}
 use Rattle.casefile.proofs.OutcomeLaws.{prepend-nil, refused-after, stored-all}
 use Rattle.casefile.proofs.RowLaws.{row-small, rows-end, rows-cut, rows-wrong, rows-refused, rows-stored}
+use Rattle.casefile.proofs.QuickLaws.{is-row, is-row-cut}
 use Rattle.casefile.proofs.rows.row_lines.Statement.{statement}
 use Rattle.casefile.proofs.rows.row_lines.Tie as tie
 
@@ -25,30 +26,31 @@ loop-holds c = (search needs, search needs, search needs, prepend-nil _)
 sub-here : tie.Need-sub-here Inv-loop μ-loop
 sub-here c = search needs
 
-seek-requires : tie.Need-seek-requires Inv-loop μ-loop
-seek-requires c κs = search needs
+next-row-requires : tie.Need-next-row-requires Inv-loop μ-loop
+next-row-requires c κs = search needs
+
+enum-known-form : tie.Need-enum-known-form Inv-loop μ-loop
+enum-known-form c = search needs
+
+enum-told : tie.Need-enum-told Inv-loop μ-loop
+enum-told c = search needs
 
 returns : tie.Need-returns Inv-loop μ-loop
 returns c =
-    let at = c .before .before .before .loop in
-    refused-after _ (at .inv .3) (rows-cut _ _ _ _ _ (c .before .before .loop-test .taken) (c .before .seek .ensures) (c .if1 .taken))
+    let at = c .before .before .before .before .loop in
+    refused-after _ (at .inv .3) (rows-cut _ _ _ _ _ (c .before .before .before .loop-test .taken) refl (is-row-cut _ _ (c .enum-told .given .1) (c .before .before .next-row .ensures)))
 
-line-requires : tie.Need-line-requires Inv-loop μ-loop
-line-requires c κs = search needs
-
-row-line-requires : tie.Need-row-line-requires Inv-loop μ-loop
-row-line-requires c κs = search needs
-
-enum-known-death : tie.Need-enum-known-death Inv-loop μ-loop
-enum-known-death c = search needs
+enum-known-form-2 : tie.Need-enum-known-form-2 Inv-loop μ-loop
+enum-known-form-2 c = search needs
 
 row-refusal-requires : tie.Need-row-refusal-requires Inv-loop μ-loop
-row-refusal-requires c κs = row-small _ _ (c .before .before .before .row-line .ensures) (c .before .death .given .1)
+row-refusal-requires c κs = row-small _ _ (is-row (c .before .before .before .before .form .given .1) (c .before .before .before .before .before .before .next-row .ensures) .read) (c .before .form2 .given .1)
 
 returns-2 : tie.Need-returns-2 Inv-loop μ-loop
 returns-2 c =
     let at = c .before .before .before .before .before .before .before .before .before .before .loop in
-    refused-after _ (at .inv .3) (rows-refused _ _ _ _ _ (c .before .before .before .before .before .before .before .before .before .loop-test .taken) (c .before .before .before .before .before .before .before .before .seek .ensures) (c .before .before .before .before .before .before .before .if1 .left) (c .before .before .before .before .before .before .line .ensures) (c .before .before .before .before .before .row-line .ensures) (c .before .before .before .death .given .1) (c .before .row-refusal .ensures) (c .if2 .taken))
+    let l = is-row (c .before .before .before .before .before .before .form .given .1) (c .before .before .before .before .before .before .before .before .next-row .ensures) in
+    refused-after _ (at .inv .3) (rows-refused _ _ _ _ _ (c .before .before .before .before .before .before .before .before .before .loop-test .taken) (l .found) (l .whole) refl (l .read) (c .before .before .before .form2 .given .1) (c .before .row-refusal .ensures) (c .if1 .taken))
 
 sub-k : tie.Need-sub-k Inv-loop μ-loop
 sub-k c = search needs
@@ -71,16 +73,19 @@ mul-row c = search needs
 element-set-from-row : tie.Need-element-set-from-row Inv-loop μ-loop
 element-set-from-row c = search needs
 
-enum-told : tie.Need-enum-told Inv-loop μ-loop
-enum-told c = search needs
+enum-told-2 : tie.Need-enum-told-2 Inv-loop μ-loop
+enum-told-2 c = search needs
 
 returns-3 : tie.Need-returns-3 Inv-loop μ-loop
 returns-3 c =
     let at = c .before .before .before .before .before .before .before .loop in
-    refused-after _ (at .inv .3) (rows-wrong _ _ _ _ _ (c .before .before .before .before .before .before .loop-test .taken) (c .before .before .before .before .before .seek .ensures) (c .before .before .before .before .if1 .left) (c .before .before .before .line .ensures) (c .before .before .row-line .ensures) (c .enum-told .given .1))
+    let l = is-row (c .before .before .before .form .given .1) (c .before .before .before .before .before .next-row .ensures) in
+    refused-after _ (at .inv .3) (rows-wrong _ _ _ _ _ (c .before .before .before .before .before .before .loop-test .taken) (l .found) (l .whole) refl (l .read) (c .enum-told2 .given .1))
 
 after-line-requires : tie.Need-after-line-requires Inv-loop μ-loop
-after-line-requires c κs = search needs
+after-line-requires c κs =
+    let l = is-row (c .before .before .before .before .before .before .before .before .before .before .form .given .1) (c .before .before .before .before .before .before .before .before .before .before .before .before .next-row .ensures) in
+    (l .found, l .whole)
 
 add-age : tie.Need-add-age Inv-loop μ-loop
 add-age c = search needs
@@ -94,7 +99,8 @@ loop-less c = search needs
 loop-again : tie.Need-loop-again Inv-loop μ-loop
 loop-again c =
     let at = c .before .before .before .before .before .before .before .before .before .before .before .before .before .before .before .loop in
-    (omega arith, omega arith, simp length-set (at .inv .2), rows-stored _ _ _ _ _ (c .before .before .before .before .before .before .before .before .before .before .before .before .before .before .loop-test .taken) (c .before .before .before .before .before .before .before .before .before .before .before .before .before .seek .ensures) (c .before .before .before .before .before .before .before .before .before .before .before .before .if1 .left) (c .before .before .before .before .before .before .before .before .before .before .before .line .ensures) (c .before .before .before .before .before .before .before .before .before .before .row-line .ensures) (c .before .before .before .before .before .before .before .before .death .given .1) (c .before .before .before .before .before .before .row-refusal .ensures) (at .table) (omega arith) (omega arith) (at .inv .3) (c .before .before .before .before .before .if2 .left) (c .after-line .ensures) (c .before .before .before .before .narrow .ensures) (c .before .before .before .narrow2 .ensures) (c .before .before .narrow3 .ensures) (c .before .narrow4 .ensures))
+    let l = is-row (c .before .before .before .before .before .before .before .before .before .before .before .form .given .1) (c .before .before .before .before .before .before .before .before .before .before .before .before .before .next-row .ensures) in
+    (omega arith, omega arith, simp length-set (at .inv .2), rows-stored _ _ _ _ _ (c .before .before .before .before .before .before .before .before .before .before .before .before .before .before .loop-test .taken) (l .found) (l .whole) refl (l .read) (c .before .before .before .before .before .before .before .before .form2 .given .1) (c .before .before .before .before .before .before .row-refusal .ensures) (at .table) (omega arith) (omega arith) (at .inv .3) (c .before .before .before .before .before .if1 .left) (c .after-line .ensures) (c .before .before .before .before .narrow .ensures) (c .before .before .before .narrow2 .ensures) (c .before .before .narrow3 .ensures) (c .before .narrow4 .ensures))
 
 returns-4 : tie.Need-returns-4 Inv-loop μ-loop
 returns-4 c =
@@ -109,11 +115,11 @@ row-lines-spec =
     μ-loop
     loop-holds
     sub-here
-    seek-requires
+    next-row-requires
+    enum-known-form
+    enum-told
     returns
-    line-requires
-    row-line-requires
-    enum-known-death
+    enum-known-form-2
     row-refusal-requires
     returns-2
     sub-k
@@ -123,7 +129,7 @@ row-lines-spec =
     narrow-requires-4
     mul-row
     element-set-from-row
-    enum-told
+    enum-told-2
     returns-3
     after-line-requires
     add-age
