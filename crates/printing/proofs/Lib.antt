@@ -1,0 +1,4 @@
+-- Laws that no function owns.
+pub mod SetsLaws
+pub mod AmountLaws
+pub mod LineLaws

@@ -1,0 +1,13 @@
+-- `printing::amounts::has_sign` meets its contract.
+use borrow.Author.Needs.{needs}
+use Rattle.printing.proofs.amounts.has_sign.Statement.{statement}
+use Rattle.printing.proofs.amounts.has_sign.Tie as tie
+
+returns : tie.Need-returns
+returns c = simp (c .before .if1 .taken)
+
+returns-2 : tie.Need-returns-2
+returns-2 c = search needs
+
+pub has-sign-spec : {M : Type 1} → statement M
+has-sign-spec = tie.close (tie.spec returns returns-2)
