@@ -5,3 +5,4 @@ pub mod Quotients
 pub mod Limits
 pub mod Needs
 pub mod Answers
+pub mod FigureSizes

@@ -1,10 +1,11 @@
 -- The laws of `nearest` that callers use: within a half either way, exact where d divides n, monotone, and what follows.
 -- They hold of every rule that rounds to a nearest whole, whatever it does with a half.
-use mathlib.Core.Path.{_≡_, ap}
-use Prim.Native.Nat.{ℕ, _+_, _*_, _≤_, _<_}
+use mathlib.Core.Path.{_≡_, refl, ap}
+use Prim.Native.Nat.{ℕ, zero, suc, _+_, _*_, _≤_, _<_}
 use native.Mathlib.Nat.{mul-one, mul-le-mul-left, mul-le-mul-right, mul-lt-mul-of-pos-right, le-of-mul-le-mul-right, lt-of-mul-lt-mul-left, lt-of-mul-lt-mul-right}
 use native.Mathlib.Omega.{arith}
-use Rattle.rounding.specs.Nearest.{nearest}
+use lib.IntN.{pos, negℤ}
+use Rattle.rounding.specs.Nearest.{nearest, nearestℤ}
 use Rattle.rounding.proofs.HalfUp.{half-up-low, half-up-high, half-up-only}
 
 -- the answer times d is above n by half of d at most
@@ -46,3 +47,9 @@ nearest-cross n d m e hd he cross =
     half-up-only n d q
     (le-of-mul-le-mul-right {m = 2 * d * q} {n = 2 * n + d} {k = e} (omega (arith, mul-le-mul-right d (half-up-low m e))) he)
     (lt-of-mul-lt-mul-right e {m = 2 * n + d} {n = 2 * d * (q + 1)} (omega (arith, mul-lt-mul-of-pos-right {k = d} (half-up-high m e he) hd)))
+
+-- a negative quotient is rounded by its size
+pub nearest-negative : (n d : ℕ) → 0 < d → nearestℤ (negℤ (pos n)) d ≡ negℤ (pos (nearest n d))
+unfolding nearestℤ
+nearest-negative zero d h = let none : nearest zero d ≡ zero = omega (arith, nearest-le zero d h) in rw none
+nearest-negative (suc n) d h = refl

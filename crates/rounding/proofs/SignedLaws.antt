@@ -8,7 +8,7 @@ use lib.IntN.{ℤ, pos, negℤ, _*ℤ_}
 use Rattle.rounding.specs.declared.Signed.{Signed}
 use Rattle.rounding.specs.Nearest.{nearest, nearestℤ}
 use Rattle.rounding.specs.Signed.{integer, signed}
-use Rattle.rounding.proofs.NearestLaws.{nearest-le}
+use Rattle.rounding.proofs.NearestLaws.{nearest-negative}
 
 -- n with a sign
 abbrev with-sign : Bool → ℕ → ℤ
@@ -20,14 +20,10 @@ times false n b = refl
 times true zero b = rw (zero-mul b)
 times true (suc n) b = refl
 
-nearest-zero : (d : ℕ) → 0 < d → nearest zero d ≡ zero
-nearest-zero d h = omega (arith, nearest-le zero d h)
-
 rounded : (negative : Bool) (n d : ℕ) → 0 < d → nearestℤ (with-sign negative n) d ≡ with-sign negative (nearest n d)
 unfolding nearestℤ
 rounded false n d h = refl
-rounded true zero d h = rw (nearest-zero d h)
-rounded true (suc n) d h = refl
+rounded true n d h = nearest-negative n d h
 
 -- so the result is the rounded size with the sign
 by-size : (a : Signed) (b d : ℕ) → 0 < d → nearestℤ (integer a *ℤ pos b) d ≡ with-sign (a .negative) (nearest (a .size * b) d)
