@@ -1,0 +1,136 @@
+-- From the arrays to what is printed, and from what is printed to the answer and the buffer.
+use mathlib.Core.Path.{_≡_, refl, sym, _∙_, ap}
+use mathlib.Core.List.{List, [], _∷_, _++_, append-assoc, append-nil}
+use Prim.Native.Nat.{ℕ, zero, suc, _+_, _≤_, _<_}
+use native.Mathlib.Omega.{arith}
+use borrow.Author.Tests.{le-leb, lt-leb}
+use lib.ListN.{length, getD, take, length-append}
+use lib.Seq.{sets, sets-eq, take-suc, take-length}
+use lib.IntN.{pos, _-ℤ_, _*ℤ_}
+use Rattle.rounding.specs.Nearest.{nearestℤ}
+use Rattle.rounding.specs.declared.Signed.{Signed}
+use Rattle.rounding.specs.Signed.{integer, signed}
+use Rattle.annuity.specs.Factors.{S, C}
+use Rattle.plan.specs.declared.Plan.{Plan}
+use Rattle.plan.specs.declared.Member.{Member}
+use Rattle.plan.proofs.Facts.{member-facts}
+use Rattle.casefile.specs.declared.Accepting.the-variants.{Accepted as CaseAccepted, Refused as CaseRefused}
+use Rattle.casefile.specs.Outcome.{Outcome, values, refusal, andThen}
+use Rattle.casefile.specs.Case.{Case, AcceptedCase, nobody, acceptingOf, accepting}
+use Rattle.casefile.specs.Stored.{memberAt, arrayOf, idBeforeAt, rowsAfter, membersAfter, AcceptedArrays}
+use Rattle.casefile.proofs.StoredLaws.{array-member}
+use Rattle.casefile.proofs.Accepted.{accepted-case}
+use Rattle.valuation.specs.declared.Answer.the-variants.{Written, Refused}
+use Rattle.valuation.specs.declared.totals.Totals.{Totals}
+use Rattle.valuation.specs.Totals.{totals, unfunded, supplemental}
+use Rattle.valuation.specs.Lines.{memberLine, memberLines, planLines, printed, refusalLine}
+use Rattle.valuation.specs.Answers.{fitting, valuedOf, answer, buffer, orRefusal, programOf}
+use Rattle.valuation.specs.Worked.{membersIn, AcceptedMembers, Worked, linesIn}
+use Rattle.valuation.proofs.TotalLaws.{integer-signed}
+
+-- ---- the arrays hold what is printed
+module _ (p : Plan) (rows : List (List ℕ)) where
+  lines-more : (l : List Member) (m : Member) → memberLines p rows (l ++ m ∷ []) ≡ memberLines p rows l ++ memberLine p rows m
+  unfolding memberLines
+  lines-more [] m = append-nil (memberLine p rows m)
+  lines-more (x ∷ l) m = rw (lines-more l m) (sym (append-assoc (memberLine p rows x) (memberLines p rows l) (memberLine p rows m)))
+
+  module _ (members worked : List ℕ) where
+    lines-are : (n : ℕ) → Worked p rows members worked n → linesIn members worked n ≡ memberLines p rows (membersIn members n)
+    unfolding linesIn membersIn memberLines memberLine
+    lines-are zero is = refl
+    lines-are (suc n) is =
+        rw (is n (omega arith), lines-are n (λ j h. is j (omega arith))) (sym (lines-more (membersIn members n) (memberAt members n)))
+
+    pub members-count : (n : ℕ) → length (membersIn members n) ≡ n
+    unfolding membersIn
+    members-count zero = refl
+    members-count (suc n) = simp (length-append, members-count n) (omega arith)
+
+    pub printed-is : (n : ℕ) {t : Totals} {u s : Signed} → Worked p rows members worked n → t ≡ totals p rows (membersIn members n) → u ≡ signed (pos (t .liability) -ℤ pos (p .assets)) → s ≡ signed (nearestℤ (integer u *ℤ pos S) (C (p .interest) (p .years))) → linesIn members worked n ++ planLines n t (integer u) (integer s) ≡ printed p rows (membersIn members n)
+    unfolding printed unfunded supplemental
+    printed-is n is sums z w =
+        rw (w, z, integer-signed, integer-signed, sums, lines-are n is, members-count n)
+
+    -- how long it is
+    pub printed-length : (n : ℕ) (t : Totals) (u s : Signed) → linesIn members worked n ++ planLines n t (integer u) (integer s) ≡ printed p rows (membersIn members n) → length (printed p rows (membersIn members n)) ≡ length (linesIn members worked n) + length (planLines n t (integer u) (integer s))
+    printed-length n t u s is = sym (ap length is) ∙ length-append (linesIn members worked n) _
+
+-- ---- the answer and the buffer
+module _ (old lines : List ℕ) where
+  pub too-long : length old < length lines → (Refused 30 0 ≡ answer (fitting (length old) lines)) × (old ≡ buffer (fitting (length old) lines) old)
+  unfolding fitting
+  too-long h = rw (lt-leb (length lines) (length old) h) (refl, refl)
+
+  pub written : {out : List ℕ} {end : ℕ} → length lines ≤ length old → end ≡ length lines → out ≡ sets old 0 lines → (Written end ≡ answer (fitting (length old) lines)) × (out ≡ buffer (fitting (length old) lines) old)
+  unfolding fitting
+  written h all is =
+      let none : 0 + length lines ≡ length lines = omega arith in
+      let at-start = rw none at (sets-eq lines old 0 (omega arith)) in
+      rw (le-leb (length lines) (length old) h) (ap Written all, is ∙ at-start)
+
+-- ---- what accepting hands on
+in-array : (a : List ℕ) (l : List Member) → ((j : ℕ) → j < length l → memberAt a j ≡ getD l j nobody) → (n : ℕ) → n ≤ length l → membersIn a n ≡ take n l
+unfolding membersIn
+in-array a l is zero h = refl
+in-array a l is (suc n) h = rw (in-array a l is n (omega arith), is n (omega arith), take-suc l n nobody (omega arith))
+
+-- the members of the array are the case's
+pub array-members : (l : List Member) → length l ≤ 1000 → membersIn (arrayOf l) (length l) ≡ l
+array-members l few =
+    in-array (arrayOf l) l (λ j h. array-member l j h few) (length l) (omega arith) ∙ take-length l
+
+pub accepted-members : {p : Plan} {n : ℕ} {rows : List (List ℕ)} {members : List ℕ} → AcceptedArrays p n rows members → AcceptedMembers p rows members n
+accepted-members {p} {n} {rows} {members} a =
+    record {
+      plan = a .plan;
+      few = a .few;
+      member = λ j h. member-facts p rows (idBeforeAt members j) (memberAt members j) (a .plan) (a .member j h);
+    }
+
+valued-by : (o : Outcome Case) (room : ℕ) {p : Plan} {n : ℕ} {rows : List (List ℕ)} {members : List ℕ} (oldRows : List (List ℕ)) (oldMembers : List ℕ) → ((c : Case) → o ≡ values c → AcceptedCase c) → CaseAccepted p n ≡ accepting o → rows ≡ rowsAfter o oldRows → members ≡ membersAfter o oldMembers → fitting room (printed p rows (membersIn members n)) ≡ andThen o (λ c. fitting room (printed (c .plan) (c .rows) (c .members)))
+valued-by (values c) room {p} {n} oldRows oldMembers is said table array =
+    let terms : p ≡ c .plan = cc in
+    let count : n ≡ length (c .members) = cc in
+    rw (terms, count, table, array, array-members (c .members) (is c refl .few))
+valued-by (refusal number line) room oldRows oldMembers is said table array =
+    let z : _≡_ {A = ℕ} 0 1 = cc in absurd (omega arith)
+
+refused-by : (o : Outcome Case) (more : Case → Outcome (List ℕ)) {number line : ℕ} → CaseRefused number line ≡ accepting o → andThen o more ≡ refusal number line
+refused-by (values c) more said = let z : _≡_ {A = ℕ} 0 1 = cc in absurd (omega arith)
+refused-by (refusal n l) more said = cc
+
+module _ (s : List ℕ) (room : ℕ) where
+  pub valued-accepted : {p : Plan} {n : ℕ} {rows : List (List ℕ)} {members : List ℕ} (oldRows : List (List ℕ)) (oldMembers : List ℕ) → CaseAccepted p n ≡ accepting (acceptingOf s) → rows ≡ rowsAfter (acceptingOf s) oldRows → members ≡ membersAfter (acceptingOf s) oldMembers → fitting room (printed p rows (membersIn members n)) ≡ valuedOf room s
+  unfolding valuedOf
+  valued-accepted oldRows oldMembers = valued-by (acceptingOf s) room oldRows oldMembers (accepted-case s)
+
+  pub valued-refused : {number line : ℕ} → CaseRefused number line ≡ accepting (acceptingOf s) → valuedOf room s ≡ refusal number line
+  unfolding valuedOf
+  valued-refused = refused-by (acceptingOf s) (λ c. fitting room (printed (c .plan) (c .rows) (c .members)))
+
+-- ---- what the program prints, from the two answers
+-- where lines were written they stay, and where the case was refused its line is written over the old bytes
+lines-printed : (room : ℕ) (o : Outcome (List ℕ)) (old : List ℕ) {n : ℕ} → Written n ≡ answer o → (answer o ≡ answer (orRefusal room o)) × (buffer o old ≡ buffer (orRefusal room o) old)
+lines-printed room (values lines) old said = (refl, refl)
+lines-printed room (refusal number line) old said = let z : _≡_ {A = ℕ} 0 1 = cc in absurd (omega arith)
+
+refusal-printed : (room : ℕ) (o : Outcome (List ℕ)) (old : List ℕ) {number line : ℕ} → Refused number line ≡ answer o → (fitting room (refusalLine number line) ≡ orRefusal room o) × (buffer o old ≡ old)
+refusal-printed room (values lines) old said = let z : _≡_ {A = ℕ} 0 1 = cc in absurd (omega arith)
+refusal-printed room (refusal n l) old {number} {line} said =
+    let first : number ≡ n = cc in
+    let second : line ≡ l = cc in
+    (rw (first, second), refl)
+
+module _ (s old : List ℕ) where
+  pub program-lines : {n : ℕ} {out : List ℕ} → Written n ≡ answer (valuedOf (length old) s) → out ≡ buffer (valuedOf (length old) s) old → (Written n ≡ answer (programOf (length old) s)) × (out ≡ buffer (programOf (length old) s) old)
+  unfolding programOf
+  program-lines said held =
+      let same = lines-printed (length old) (valuedOf (length old) s) old said in
+      (said ∙ same .0, held ∙ same .1)
+
+  pub program-refusal : {number line : ℕ} {out : List ℕ} → Refused number line ≡ answer (valuedOf (length old) s) → out ≡ buffer (valuedOf (length old) s) old → (fitting (length old) (refusalLine number line) ≡ programOf (length old) s) × (out ≡ old)
+  unfolding programOf
+  program-refusal said held =
+      let same = refusal-printed (length old) (valuedOf (length old) s) old said in
+      (same .0, held ∙ same .1)

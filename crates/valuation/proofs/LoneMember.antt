@@ -1,0 +1,40 @@
+-- A member that is accepted in a file is accepted alone too: only the id of the one before it is not asked for.
+use mathlib.Core.Path.{_≡_, sym, _∙_}
+use mathlib.Core.Bool.{Bool, true, false, _&&_}
+use mathlib.Core.List.{List, [], _∷_, _++_}
+use Prim.Native.Nat.{ℕ, zero, suc}
+use native.Mathlib.Omega.{arith}
+use borrow.Author.Tests.{lt-ltb}
+use lib.Dec.{ltb}
+use lib.ListN.{drop}
+use Rattle.plan.specs.declared.Plan.{Plan}
+use Rattle.plan.specs.declared.Member.{Member}
+use Rattle.plan.specs.Rules.{unless, firstOf, between}
+use Rattle.plan.specs.Acceptance.{planRefusal, fieldRules, benefitRules, memberRefusal, loneRefusal}
+use Rattle.plan.proofs.Facts.{all-kept}
+use Rattle.plan.proofs.RuleLaws.{first-passes, first-alone}
+
+-- the first rule may be another that is kept
+first-other : (a a' : ℕ) (later : List ℕ) → (a ≡ 0 → a' ≡ 0) → firstOf (a ∷ later) ≡ 0 → firstOf (a' ∷ later) ≡ 0
+first-other a a' later kept e =
+    let h = all-kept (a ∷ later) e .0 in
+    first-passes a' later (kept h) ∙ sym (first-passes a later h) ∙ e
+
+kept-part : (t u w : Bool) → w ≡ true → unless (t && u) 21 ≡ 0 → unless (t && w) 21 ≡ 0
+kept-part true u w there e = rw there
+kept-part false u w there e = e
+
+lone-id : (before id : ℕ) → unless (between 1 999999999 id && ltb before id) 21 ≡ 0 → unless (between 1 999999999 id && ltb 0 id) 21 ≡ 0
+lone-id before zero e = e
+lone-id before (suc id) e =
+    kept-part (between 1 999999999 (suc id)) (ltb before (suc id)) (ltb 0 (suc id)) (lt-ltb 0 (suc id) (omega arith)) e
+
+module _ (p : Plan) (rows : List (List ℕ)) (before : ℕ) (m : Member) where
+  no-id-before : memberRefusal p rows before m ≡ 0 → memberRefusal p rows 0 m ≡ 0
+  unfolding memberRefusal fieldRules
+  no-id-before = first-other _ _ (drop 1 (fieldRules p before m) ++ benefitRules p rows m) (lone-id before (m .id))
+
+  pub accepted-alone : planRefusal p rows ≡ 0 → memberRefusal p rows before m ≡ 0 → loneRefusal p rows m ≡ 0
+  unfolding loneRefusal
+  accepted-alone plan member =
+      first-passes (planRefusal p rows) (memberRefusal p rows 0 m ∷ []) plan ∙ first-alone (memberRefusal p rows 0 m) ∙ no-id-before member

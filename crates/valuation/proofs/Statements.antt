@@ -1,0 +1,117 @@
+-- The statements of specs/Statements.antt.
+use mathlib.Core.Path.{_≡_, refl, sym, ap, _∙_}
+use mathlib.Core.Bool.{Bool, true, false, cond}
+use mathlib.Core.List.{List, [], _∷_, _++_}
+use Prim.Native.Nat.{ℕ, suc, _+_, _-_, _<_}
+use native.Mathlib.Nat.{zero-add}
+use native.Mathlib.Omega.{arith}
+use lib.Dec.{leb}
+use lib.ListN.{length, getD}
+use Rattle.plan.proofs.Facts.{plan-facts, member-facts}
+use Rattle.costs.proofs.Answers.{valued, limited}
+use Rattle.casefile.specs.Split.{uptoOf, linesPast}
+use Rattle.casefile.specs.Outcome.{Outcome, values, refusal, andThen}
+use Rattle.casefile.specs.Case.{Case, nobody, acceptingOf, idBefore}
+use Rattle.casefile.proofs.OutcomeLaws.{no-values, values-one}
+use Rattle.casefile.proofs.Accepted.{accepted-case}
+use Rattle.valuation.specs.Totals.{total, unfunded, supplemental}
+use Rattle.valuation.specs.Lines.{memberLine, planLines, printed}
+use Rattle.valuation.specs.Answers.{fitting, valuedOf}
+use Rattle.valuation.specs.Statements.{lineOf, Every-Member, Members-Are-Lines, Plan-Lines, Independence, Totals-Are-Sums, supplemental*, Supplemental-Accuracy}
+use Rattle.valuation.proofs.LineEnds.{member-is-line, member-text, members-done}
+use Rattle.valuation.proofs.FileLines.{past-both, Agree, plan-same, file-lined, member-same}
+use Rattle.valuation.proofs.LoneMember.{accepted-alone}
+use Rattle.valuation.proofs.TotalLaws.{total-one, total-both}
+use Rattle.valuation.proofs.SupplementalLaws.{payment-close}
+
+-- ---- the lines of a file
+-- the line after n others
+line-past : (n : ℕ) (s : List ℕ) → lineOf (suc n) s ≡ uptoOf 10 (linesPast n s)
+unfolding lineOf
+line-past n s = let past : suc n - 1 ≡ n = omega arith in rw past
+
+line-115 : (j : ℕ) (s : List ℕ) → lineOf (115 + j) s ≡ uptoOf 10 (linesPast (114 + j) s)
+line-115 j s = let next : 115 + j ≡ suc (114 + j) = omega arith in rw next (line-past (114 + j) s)
+
+-- ---- what is printed of an accepted file
+fits-whole : (b : Bool) (lines : List ℕ) {out : List ℕ} → cond b (values lines) (refusal 30 0) ≡ values out → out ≡ lines
+fits-whole true lines e = sym (values-one e)
+fits-whole false lines e = no-values e
+
+printed-of : (s : List ℕ) (room : ℕ) (c : Case) {out : List ℕ} → acceptingOf s ≡ values c → valuedOf room s ≡ values out → out ≡ printed (c .plan) (c .rows) (c .members)
+unfolding valuedOf fitting
+printed-of s room c accepted e =
+    let lines = printed (c .plan) (c .rows) (c .members) in
+    fits-whole (leb (length lines) room) lines (rw accepted at e)
+
+-- the text of member j's line
+module _ (s : List ℕ) (room : ℕ) (c : Case) {out : List ℕ} (accepted : acceptingOf s ≡ values c) (fits : valuedOf room s ≡ values out) (j : ℕ) (there : j < length (c .members)) where
+  own-text : lineOf (1 + j) out ≡ member-is-line (c .plan) (c .rows) (getD (c .members) j nobody) .text
+  unfolding lineOf printed
+  own-text =
+      let past : 1 + j - 1 ≡ j = omega arith in
+      rw (past, printed-of s room c accepted fits) (member-text (c .plan) (c .rows) (c .members) _ j there)
+
+pub every-member : Every-Member
+unfolding memberLine
+every-member s out room c accepted fits j there =
+    let m = getD (c .members) j nobody in
+    let before = idBefore (c .members) j in
+    let rules = accepted-case s c accepted in
+    let kept = rules .member j there in
+    record {
+      shown = ap (λ (text : List ℕ). text ++ (10 ∷ [])) (own-text s room c accepted fits j there) ∙ sym (member-is-line (c .plan) (c .rows) m .is);
+      alike = sym (valued (c .plan) (c .rows) m (accepted-alone (c .plan) (c .rows) before m (rules .plan) kept) refl);
+      limited = limited (c .plan) (c .rows) m (member-facts (c .plan) (c .rows) before m (rules .plan) kept) refl;
+    }
+
+pub members-are-lines : Members-Are-Lines
+members-are-lines s c accepted =
+    let lined = file-lined s c accepted in
+    record {
+      all = λ j starts. lined .all j (rw (line-115 j s, past-both 114 j s) at starts);
+      each = λ j there. rw (line-115 j s, past-both 114 j s) (lined .each j there);
+      counted = rw (line-115 (length (c .members)) s, past-both 114 (length (c .members)) s) (rw (zero-add (length (c .members))) at (lined .counted));
+    }
+
+pub plan-lines : Plan-Lines
+unfolding printed planLines
+plan-lines s out room c accepted fits =
+    ap (linesPast (length (c .members))) (printed-of s room c accepted fits) ∙ members-done (c .plan) (c .rows) (c .members) _
+
+-- ---- independence
+accepted-of : (o : Outcome Case) (more : Case → Outcome (List ℕ)) {out : List ℕ} → andThen o more ≡ values out → (c : Case) × (o ≡ values c)
+accepted-of (values c) more e = (c, refl)
+accepted-of (refusal n l) more e = no-values e
+
+case-of : (s : List ℕ) (room : ℕ) {out : List ℕ} → valuedOf room s ≡ values out → (c : Case) × (acceptingOf s ≡ values c)
+unfolding valuedOf
+case-of s room = accepted-of (acceptingOf s) _
+
+pub independence : Independence
+independence s s' out out' room room' j j' fits fits' agree =
+    let a = case-of s room fits in
+    let a' = case-of s' room' fits' in
+    let c = a .0 in
+    let c' = a' .0 in
+    let before : Agree 114 s s' = λ n h. sym (line-past n s) ∙ agree .before (suc n) (omega arith) (omega arith) ∙ line-past n s' in
+    let lines = members-are-lines s c (a .1) in
+    let lines' = members-are-lines s' c' (a' .1) in
+    let there = lines .all j (agree .member) in
+    let there' = lines' .all j' (rw (agree .same) at (agree .member)) in
+    let member = member-same (lines .each j there) (lines' .each j' there') (agree .same) in
+    let plan = plan-same s s' c c' before (a .1) (a' .1) in
+    own-text s room c (a .1) fits j there
+    ∙ (λ i. member-is-line (plan .0 i) (plan .1 i) (member i) .text)
+    ∙ sym (own-text s' room' c' (a' .1) fits' j' there')
+
+-- ---- totals
+pub totals-are-sums : Totals-Are-Sums
+unfolding total
+totals-are-sums p rows figure = record { none = refl; one = total-one p rows figure; both = total-both p rows figure }
+
+-- ---- the supplemental cost
+pub supplemental-accuracy : Supplemental-Accuracy
+unfolding supplemental supplemental*
+supplemental-accuracy p rows members accepted =
+    payment-close (p .interest) (p .years) (plan-facts p rows accepted .head .years .0) (unfunded p rows members)

@@ -1,0 +1,61 @@
+-- `valuation::value_case` meets its contract.
+use borrow.Author.Needs.{needs}
+use mathlib.Core.Path.{sym, _∙_, ap}
+use lib.ListN.{length, replicate}
+use Prim.Native.Nat.{ℕ}
+use mathlib.Core.List.{List}
+use Rattle.casefile.proofs.Accepted.{accepted-arrays}
+use Rattle.valuation.specs.Answers.{answer, buffer}
+use Rattle.valuation.proofs.AnswerLaws.{accepted-members, valued-accepted, valued-refused}
+use Rattle.valuation.proofs.value_case.Statement.{statement}
+use Rattle.valuation.proofs.value_case.Tie as tie
+
+-- what the two arrays hold before accepting
+abbrev zero-rows : List (List ℕ)
+zero-rows = replicate 106 (replicate 4 0)
+
+abbrev zeros : List ℕ
+zeros = replicate 4000 0
+
+accept-case-requires : tie.Need-accept-case-requires
+accept-case-requires c κs = search needs
+
+enum-known-p : tie.Need-enum-known-p
+enum-known-p c = search needs
+
+value-accepted-requires : tie.Need-value-accepted-requires
+value-accepted-requires c κs =
+    let a = c .before .before .before .before .before .accept-case .ensures in
+    accepted-members (accepted-arrays (c .before .before .before .before .before .before .before .before .before .before .args .case .now) _ _ (c .before .before .before .before .before .accept-case .last .1 .0) zero-rows (c .before .before .before .before .before .accept-case .last .1 .1 .0) zeros (sym (c .before .before .before .p .given .1) ∙ a .0) (a .1 .0) (a .1 .1))
+
+enum-known-number : tie.Need-enum-known-number
+enum-known-number c = search needs
+
+same-length : tie.Need-same-length
+same-length c = search needs
+
+returns : tie.Need-returns
+returns c =
+    let g = c .before .before .before .before .before .before .before .before .before .before .before .before .before .args in
+    let a = c .before .before .before .before .before .before .before .before .accept-case .ensures in
+    let v = c .before .before .value-accepted .ensures in
+    let is = valued-accepted (g .case .now) (length (g .out .now)) {rows = c .before .before .before .before .before .before .before .before .accept-case .last .1 .0} {members = c .before .before .before .before .before .before .before .before .accept-case .last .1 .1 .0} zero-rows zeros (sym (c .before .before .before .before .before .before .p .given .1) ∙ a .0) (a .1 .0) (a .1 .1) in
+    (v .0 ∙ ap answer is, v .1 ∙ ap (λ o. buffer o (g .out .now)) is)
+
+returns-2 : tie.Need-returns-2
+returns-2 c =
+    let g = c .before .before .before .before .before .before .before .before .args in
+    let is = valued-refused (g .case .now) (length (g .out .now)) (sym (c .before .number .given .1) ∙ c .before .before .before .accept-case .ensures .0) in
+    (ap answer (sym is), ap (λ o. buffer o (g .out .now)) (sym is))
+
+pub value-case-spec : {M : Type 1} → statement M
+value-case-spec =
+    tie.close
+    (tie.spec
+    accept-case-requires
+    enum-known-p
+    value-accepted-requires
+    enum-known-number
+    same-length
+    returns
+    returns-2)

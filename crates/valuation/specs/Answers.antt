@@ -1,0 +1,37 @@
+-- The answers of the entries that write, and what the buffer holds after them.
+use mathlib.Core.Bool.{cond}
+use mathlib.Core.List.{List, _++_}
+use Prim.Native.Nat.{ℕ}
+use lib.Dec.{leb}
+use lib.ListN.{length, drop}
+use Rattle.casefile.specs.Outcome.{Outcome, values, refusal, andThen}
+use Rattle.casefile.specs.Case.{acceptingOf}
+use Rattle.valuation.specs.declared.Answer.{Answer}
+use Rattle.valuation.specs.declared.Answer.the-variants.{Written, Refused}
+use Rattle.valuation.specs.Lines.{printed, refusalLine}
+
+-- "30 the output lines are longer than the buffer (line 0)"
+unfoldable pub fitting : (room : ℕ) → List ℕ → Outcome (List ℕ)
+fitting room lines = cond (leb (length lines) room) (values lines) (refusal 30 0)
+
+-- a case file: its first refusal; "30 last"; else the lines
+unfoldable pub valuedOf : (room : ℕ) → List ℕ → Outcome (List ℕ)
+valuedOf room case = andThen (acceptingOf case) (λ c. fitting room (printed (c .plan) (c .rows) (c .members)))
+
+-- the answer: how many bytes were written, or "its number and line"
+abbrev pub answer : Outcome (List ℕ) → Answer
+answer (values lines) = Written (length lines)
+answer (refusal number line) = Refused number line
+
+-- the buffer after it: the lines and then the old tail; "A refusal returns its number and line; the output buffer keeps its bytes."
+abbrev pub buffer : Outcome (List ℕ) → List ℕ → List ℕ
+buffer (values lines) old = lines ++ drop (length lines) old
+buffer (refusal number line) old = old
+
+-- what the program prints: "the member lines, total, unfunded, supplemental; or the one line refused=number,line"
+abbrev pub orRefusal : (room : ℕ) → Outcome (List ℕ) → Outcome (List ℕ)
+orRefusal room (values lines) = values lines
+orRefusal room (refusal number line) = fitting room (refusalLine number line)
+
+unfoldable pub programOf : (room : ℕ) → List ℕ → Outcome (List ℕ)
+programOf room case = orRefusal room (valuedOf room case)

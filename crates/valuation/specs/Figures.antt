@@ -1,0 +1,39 @@
+-- Document 01, 'Figures worked by hand': the whole proved set, the last figure added to those of the crate below, by one computed check over one list; and the lines of the short case.
+use mathlib.Core.Path.{_≡_, refl}
+use mathlib.Core.Bool.{true}
+use mathlib.Core.List.{List, [], _∷_, _++_}
+use lib.IntN.{ℤ, pos, negℤ, natAbs, _+ℤ_, _*ℤ_}
+use Rattle.rounding.specs.Nearest.{nearest, nearestℤ}
+use Rattle.fractions.specs.Ratio.{_over_, whole, _⊕_, _⊗_, inverse}
+use Rattle.annuity.specs.Recursion.{carried}
+use Rattle.annuity.specs.Basis.{stays, staying}
+use Rattle.annuity.specs.Factors.{S, step, A, pension, G, T, Z, C}
+use Rattle.annuity.specs.Figures.{short, Figure, _is_, all-are, factors}
+use Rattle.plan.specs.Weights.{summed}
+use Rattle.plan.specs.Benefit.{formulaOf, pay, pays, exactBenefit, B}
+use Rattle.plan.specs.Acceptance.{loneRefusal, planRefusal, headRules, rowsRefusal, rowRules, memberRefusal, fieldRules, benefitRules, rises}
+use Rattle.costs.specs.Costs.{PV, cost, N, L}
+use Rattle.costs.specs.Valuation.{methodOf, figuresAt, figures}
+use Rattle.costs.specs.Figures.{short-plan, short-member, figures as member-figures}
+use Rattle.casefile.specs.Text.{bytes}
+use Rattle.printing.specs.Amounts.{digits, width, whole as wholeText, amount, signedAmount}
+use Rattle.printing.specs.Lines.{fields, amountsLine, signedLine}
+use Rattle.valuation.specs.Totals.{total, unfunded, supplemental}
+use Rattle.valuation.specs.Lines.{figuresLine, totalLine, planLines, memberLine, memberLines, printed}
+
+-- "P unfunded −100.00, years 2: −52.38."
+abbrev payment : ℤ
+payment = nearestℤ (negℤ (pos 10000) *ℤ pos S) (C 1000 2)
+
+-- a figure below 0: with its size added it is 0
+unfoldable pub proved-set : List Figure
+proved-set = member-figures ++ (natAbs (payment +ℤ pos 5238) is 0) ∷ []
+
+pub proved-set-stands : all-are proved-set ≡ true
+unfolding proved-set member-figures factors short stays staying nearest nearestℤ carried step A pension G T Z C _over_ whole _⊕_ _⊗_ inverse summed formulaOf pay pays exactBenefit B PV cost N L loneRefusal planRefusal headRules rowsRefusal rowRules memberRefusal fieldRules benefitRules rises
+proved-set-stands = refl
+
+-- the short case, as it is printed
+pub short-lines : printed short-plan short (short-member ∷ []) ≡ bytes "member=7,200.00,181.82,86.58,95.24\ntotal=1,181.82,86.58,95.24\nunfunded=75.24\nsupplemental=39.41\n"
+unfolding printed memberLines memberLine planLines totalLine figuresLine amountsLine signedLine fields signedAmount amount wholeText width digits total unfunded supplemental figures figuresAt methodOf formulaOf exactBenefit B PV cost N L short stays staying nearest nearestℤ carried step A pension G T C _over_ whole
+short-lines = refl

@@ -1,0 +1,45 @@
+-- Document 01, 'What is printed': "the member lines, total, unfunded, supplemental". "Fields: id, B(r), V(x), N, L; then count and sums of V, N, L."
+use mathlib.Core.List.{List, [], _∷_, _++_}
+use Prim.Native.Nat.{ℕ}
+use lib.ListN.{length}
+use lib.IntN.{ℤ}
+use Rattle.plan.specs.declared.Plan.{Plan}
+use Rattle.plan.specs.declared.Member.{Member}
+use Rattle.costs.specs.declared.Figures.{Figures}
+use Rattle.costs.specs.Valuation.{figures}
+use Rattle.casefile.specs.Text.{bytes}
+use Rattle.printing.specs.Lines.{amountsLine, signedLine, pairLine}
+use Rattle.valuation.specs.declared.totals.Totals.{Totals}
+use Rattle.valuation.specs.Totals.{totals, unfunded, supplemental}
+
+-- "id, B(r), V(x), N, L"
+unfoldable pub figuresLine : (id : ℕ) → Figures → List ℕ
+figuresLine id f = amountsLine (bytes "member=") id (f .benefit ∷ f .value ∷ f .cost ∷ f .liability ∷ [])
+
+-- "then count and sums of V, N, L"
+unfoldable pub totalLine : (count : ℕ) → Totals → List ℕ
+totalLine count t = amountsLine (bytes "total=") count (t .value ∷ t .cost ∷ t .liability ∷ [])
+
+-- "total, unfunded, supplemental"
+unfoldable pub planLines : (count : ℕ) → Totals → (unfunded supplemental : ℤ) → List ℕ
+planLines count t unfunded supplemental =
+    totalLine count t ++ signedLine (bytes "unfunded=") unfunded ++ signedLine (bytes "supplemental=") supplemental
+
+module _ (p : Plan) (rows : List (List ℕ)) where
+  -- a member's line rests on the plan, the rows and the member alone
+  unfoldable pub memberLine : Member → List ℕ
+  memberLine m = figuresLine (m .id) (figures p rows m)
+
+  -- the member lines, in order
+  unfoldable pub memberLines : List Member → List ℕ
+  memberLines [] = []
+  memberLines (m ∷ more) = memberLine m ++ memberLines more
+
+  -- all that is printed of an accepted case
+  unfoldable pub printed : List Member → List ℕ
+  printed members =
+      memberLines members ++ planLines (length members) (totals p rows members) (unfunded p rows members) (supplemental p rows members)
+
+-- "or the one line refused=number,line"
+unfoldable pub refusalLine : (number line : ℕ) → List ℕ
+refusalLine number line = pairLine (bytes "refused=") number line

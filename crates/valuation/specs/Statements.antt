@@ -1,0 +1,139 @@
+-- What document 01 says of the printed lines, beside the contracts. Proved in proofs/Statements.antt.
+use mathlib.Core.Path.{_≡_}
+use mathlib.Core.Bool.{true, false}
+use mathlib.Core.List.{List, [], _∷_, _++_}
+use Prim.Native.Nat.{ℕ, _+_, _-_, _≤_, _<_}
+use lib.ListN.{length, getD}
+use lib.IntN.{natAbs}
+use Rattle.fractions.specs.Ratio.{_over_, whole, _⊕_, _⊘_}
+use Rattle.fractions.specs.Fraction.{Fraction, integer, _⊙_, Apart}
+use Rattle.annuity.specs.Factors.{S, C*}
+use Rattle.plan.specs.declared.Plan.{Plan}
+use Rattle.plan.specs.declared.Member.{Member}
+use Rattle.plan.specs.Acceptance.{planRefusal}
+use Rattle.costs.specs.declared.Figures.{Figures}
+use Rattle.costs.specs.declared.Valuation.the-variants.{Valued}
+use Rattle.costs.specs.Valuation.{figures, valuation, Limited}
+use Rattle.casefile.specs.declared.members.Tail.the-variants.{OfMember, OfEnd}
+use Rattle.casefile.specs.Text.{bytes}
+use Rattle.casefile.specs.Split.{uptoOf, startsOf, linesPast}
+use Rattle.casefile.specs.Outcome.{values}
+use Rattle.casefile.specs.Members.{tailOf}
+use Rattle.casefile.specs.Case.{Case, nobody, acceptingOf}
+use Rattle.casefile.specs.declared.numbers.Number.the-variants.{Value}
+use Rattle.casefile.specs.Numbers.{wholeOf, amountOf}
+use Rattle.printing.specs.Amounts.{amount, whole as wholeNumber}
+use Rattle.printing.specs.Lines.{signedLine}
+use Rattle.valuation.specs.Totals.{total, totals, unfunded, supplemental}
+use Rattle.valuation.specs.Lines.{figuresLine, totalLine}
+use Rattle.valuation.specs.Answers.{valuedOf}
+
+-- line n of a text, counted from 1, without the byte 10 that ends it
+unfoldable pub lineOf : ℕ → List ℕ → List ℕ
+lineOf n s = uptoOf 10 (linesPast (n - 1) s)
+
+-- ---- an accepted file whose lines fit the buffer
+-- what holds of a member m and its printed line: demands 2 and 3
+pub record MemberPrinted (c : Case) (m : Member) (line : List ℕ) : Type 0 where
+  -- "Fields: id, B(r), V(x), N, L"
+  pub shown : line ++ (10 ∷ []) ≡ figuresLine (m .id) (figures (c .plan) (c .rows) m)
+  -- "alike for a member from a file and for one handed in as plain values": what value_member answers
+  pub alike : valuation (c .plan) (c .rows) m ≡ Valued (figures (c .plan) (c .rows) m)
+  -- "Each differs from its exact fraction, either way, by 15 cents at most; for the N of CP by 15 × W(x) / W(y) cents at most"
+  pub limited : Limited (c .plan) (c .rows) m (Valued (figures (c .plan) (c .rows) m))
+
+-- of every member, in its place: "the member lines, total, unfunded, supplemental"
+abbrev pub Every-Member : Type 0
+Every-Member =
+    (s out : List ℕ) (room : ℕ) (c : Case) → acceptingOf s ≡ values c → valuedOf room s ≡ values out
+    → (j : ℕ) → j < length (c .members) → MemberPrinted c (getD (c .members) j nobody) (lineOf (1 + j) out)
+
+-- "Then 0 to 1,000 lines member=id,entry,age,salary [..]. Last line end=, the count of members.": the members of an accepted file s
+-- are its lines that begin with member=, no more and no fewer
+pub record MembersStand (c : Case) (s : List ℕ) : Type 0 where
+  -- a line that begins with member= is a member's: none is lost
+  pub all : (j : ℕ) → startsOf (bytes "member=") (lineOf (115 + j) s) ≡ true → j < length (c .members)
+  -- member j stands in line 115 + j: none is invented
+  pub each : (j : ℕ) → j < length (c .members) → tailOf false (lineOf (115 + j) s) ≡ OfMember (getD (c .members) j nobody)
+  -- and the line after theirs holds their count
+  pub counted : tailOf false (lineOf (115 + length (c .members)) s) ≡ OfEnd (length (c .members))
+
+abbrev pub Members-Are-Lines : Type 0
+Members-Are-Lines = (s : List ℕ) (c : Case) → acceptingOf s ≡ values c → MembersStand c s
+
+-- "total, unfunded, supplemental", "each line ends with byte 10"; "then count and sums of V, N, L", and the count is that of the members.
+-- All that stands after the members' lines, to the last byte
+abbrev pub Plan-Lines : Type 0
+Plan-Lines =
+    (s out : List ℕ) (room : ℕ) (c : Case) → acceptingOf s ≡ values c → valuedOf room s ≡ values out
+    → linesPast (length (c .members)) out
+    ≡ totalLine (length (c .members)) (totals (c .plan) (c .rows) (c .members))
+    ++ signedLine (bytes "unfunded=") (unfunded (c .plan) (c .rows) (c .members))
+    ++ signedLine (bytes "supplemental=") (supplemental (c .plan) (c .rows) (c .members))
+
+-- ---- independence
+-- two files agree in lines 1 to 114, all lines before the members, and the line of member j in one is that of member j' in the other
+pub record Agreeing (s s' : List ℕ) (j j' : ℕ) : Type 0 where
+  pub before : (n : ℕ) → 1 ≤ n → n ≤ 114 → lineOf n s ≡ lineOf n s'
+  pub member : startsOf (bytes "member=") (lineOf (115 + j) s) ≡ true
+  pub same : lineOf (115 + j) s ≡ lineOf (115 + j') s'
+
+-- "Two accepted files that agree in all lines before the members and in one member line, and whose lines fit their buffers, print the same line for that member."
+-- Where `valuedOf` has values, the file is accepted and the lines fit; the members' lines stand first among them
+abbrev pub Independence : Type 0
+Independence =
+    (s s' out out' : List ℕ) (room room' j j' : ℕ) → valuedOf room s ≡ values out → valuedOf room' s' ≡ values out'
+    → Agreeing s s' j j' → lineOf (1 + j) out ≡ lineOf (1 + j') out'
+
+-- ---- totals
+-- "Totals are sums of printed cents": nothing of no member, a figure of one, and of two lists what the two come to
+pub record Sums (p : Plan) (rows : List (List ℕ)) (figure : Figures → ℕ) : Type 0 where
+  pub none : total p rows figure [] ≡ 0
+  pub one : (m : Member) → total p rows figure (m ∷ []) ≡ figure (figures p rows m)
+  pub both : (l l' : List Member) → total p rows figure (l ++ l') ≡ total p rows figure l + total p rows figure l'
+
+abbrev pub Totals-Are-Sums : Type 0
+Totals-Are-Sums = (p : Plan) (rows : List (List ℕ)) (figure : Figures → ℕ) → Sums p rows figure
+
+-- ---- the supplemental cost
+-- "its exact fraction, which starts from the unfunded as printed": unfunded × S / C, with the exact C
+unfoldable pub supplemental* : Plan → List (List ℕ) → List Member → Fraction
+supplemental* p rows members = integer (unfunded p rows members) ⊙ (whole S ⊘ C* (p .interest) (p .years))
+
+-- "It lies within half a cent plus one two-billionth of the unfunded size of its exact fraction"
+abbrev pub Supplemental-Accuracy : Type 0
+Supplemental-Accuracy =
+    (p : Plan) (rows : List (List ℕ)) (members : List Member) → planRefusal p rows ≡ 0
+    → Apart (1 over 2 ⊕ natAbs (unfunded p rows members) over 2000000000) (integer (supplemental p rows members)) (supplemental* p rows members)
+
+-- ---- the form of what is printed: proved in proofs/ReadBack.antt and proofs/AmountSizes.antt
+-- "amounts have the case file's form": what reads a case file reads a printed number back, and finds what was printed. "A whole number is 0, or 1 to 12 decimal digits that don't begin with 0."
+abbrev pub Wholes-Read-Back : Type 0
+Wholes-Read-Back = (n : ℕ) → n < 1000000000000 → wholeOf (wholeNumber n) ≡ Value n
+
+-- "An amount is a whole number, a point and exactly two digits, in dollars"
+abbrev pub Amounts-Read-Back : Type 0
+Amounts-Read-Back = (cents : ℕ) → cents < 100000000000000 → amountOf (amount cents) ≡ Value cents
+
+-- and every number and amount that is printed of an accepted case is one of those: an amount is 999999999999.99 at most, whatever its sign
+abbrev pub Fits : ℕ → Type 0
+Fits cents = cents < 100000000000000
+
+pub record FiguresFit (f : Figures) : Type 0 where
+  pub benefit : Fits (f .benefit)
+  pub value : Fits (f .value)
+  pub cost : Fits (f .cost)
+  pub liability : Fits (f .liability)
+
+pub record AmountsFit (p : Plan) (rows : List (List ℕ)) (members : List Member) : Type 0 where
+  pub id : (j : ℕ) → j < length members → getD members j nobody .id < 1000000000000
+  pub count : length members < 1000000000000
+  pub member : (j : ℕ) → j < length members → FiguresFit (figures p rows (getD members j nobody))
+  pub value : Fits (totals p rows members .value)
+  pub cost : Fits (totals p rows members .cost)
+  pub liability : Fits (totals p rows members .liability)
+  pub unfunded-size : Fits (natAbs (unfunded p rows members))
+  pub supplemental-size : Fits (natAbs (supplemental p rows members))
+
+abbrev pub Printed-Amounts-Fit : Type 0
+Printed-Amounts-Fit = (s : List ℕ) (c : Case) → acceptingOf s ≡ values c → AmountsFit (c .plan) (c .rows) (c .members)

@@ -1,0 +1,34 @@
+-- Document 01, 'Plan': "Totals are sums of printed cents. Unfunded is total L less assets. Supplemental, (7.8b), is unfunded × S / C".
+use mathlib.Core.List.{List, [], _∷_}
+use Prim.Native.Nat.{ℕ, _+_}
+use lib.IntN.{ℤ, pos, _-ℤ_, _*ℤ_}
+use Rattle.rounding.specs.Nearest.{nearestℤ}
+use Rattle.annuity.specs.Factors.{S, C}
+use Rattle.plan.specs.declared.Plan.{Plan}
+use Rattle.plan.specs.declared.Member.{Member}
+use Rattle.costs.specs.declared.Figures.{Figures}
+use Rattle.costs.specs.Valuation.{figures}
+use Rattle.valuation.specs.declared.totals.Totals.{Totals}
+
+module _ (p : Plan) (rows : List (List ℕ)) where
+  -- "sums of printed cents": a figure of each member, summed over all of them
+  unfoldable pub total : (Figures → ℕ) → List Member → ℕ
+  total figure [] = 0
+  total figure (m ∷ more) = figure (figures p rows m) + total figure more
+
+  -- "sums of V, N, L"
+  abbrev pub totals : List Member → Totals
+  totals members =
+      record {
+        value = total (λ f. f .value) members;
+        cost = total (λ f. f .cost) members;
+        liability = total (λ f. f .liability) members;
+      }
+
+  -- "Unfunded is total L less assets."
+  unfoldable pub unfunded : List Member → ℤ
+  unfunded members = pos (totals members .liability) -ℤ pos (p .assets)
+
+  -- "Supplemental, (7.8b), is unfunded × S / C, C the annuity of m certain payments"
+  unfoldable pub supplemental : List Member → ℤ
+  supplemental members = nearestℤ (unfunded members *ℤ pos S) (C (p .interest) (p .years))

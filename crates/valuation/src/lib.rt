@@ -1,0 +1,102 @@
+// The valuation of a whole plan: document 01, 'Plan' and 'What is printed'. totals.rt works the figures of all members
+// and sums them, lines.rt writes the lines; specs/ has the totals, the lines and the answers. The entries are value_case,
+// refusal_line and print_case here, and those of the layers below, which are passed on: read_case, accept_case, accept_plan,
+// accept_member, value_member. None has a `requires`.
+mod lines;
+mod totals;
+
+use crate::lines::member_lines_width;
+use crate::lines::plan_lines_width;
+use crate::lines::write_member_lines;
+use crate::lines::write_plan_lines;
+use crate::totals::supplemental_of;
+use crate::totals::unfunded_of;
+use crate::totals::work;
+pub use casefile::Accepting;
+pub use casefile::Reading;
+pub use casefile::accept_case;
+pub use casefile::read_case;
+pub use costs::Figures;
+pub use costs::Valuation;
+pub use costs::value_member;
+pub use plan::Member;
+pub use plan::Plan;
+pub use plan::acceptance::Acceptance;
+pub use plan::acceptance::accept_member;
+pub use plan::acceptance::accept_plan;
+use printing::lines::pair_line_width;
+use printing::lines::write_pair_line;
+ghost use mathlib.Core.Path.{_≡_};
+ghost use lib.ListN.{length};
+ghost use Rattle.valuation.specs.Lines.{printed, refusalLine};
+ghost use Rattle.valuation.specs.Answers.{fitting, valuedOf, answer, buffer, programOf};
+ghost use Rattle.valuation.specs.Worked.{AcceptedMembers, membersIn};
+
+// The answer of an entry that writes: how many bytes, or a refusal's number and line.
+pub enum Answer {
+    Written(usize),
+    Refused(u64, u64),
+}
+
+// Values a case file: the lines of its members and of the plan, at the start of `out`, or a refusal.
+pub fn value_case(case: &[u8], out: &mut [u8]) -> Answer
+    ensures { λ r. ⌜ r ≡ answer (valuedOf (length (now (out .entry))) (now (case .entry))) ⌝ }
+    ensures { λ _. ⌜ now (out .exit) ≡ buffer (valuedOf (length (now (out .entry))) (now (case .entry))) (now (out .entry)) ⌝ }
+{
+    let mut rows = [[0u32; 4]; 106];
+    let mut members = [0u64; 4000];
+    match accept_case(case, &mut rows, &mut members) {
+        Accepting::Accepted(p, count) => value_accepted(p, rows, &members, count, out),
+        Accepting::Refused(number, line) => Answer::Refused(number, line),
+    }
+}
+
+// Values an accepted case.
+fn value_accepted(
+    p: Plan,
+    rows: [[u32; 4]; 106],
+    members: &[u64; 4000],
+    count: u64,
+    out: &mut [u8],
+) -> Answer
+    requires { ⌜ AcceptedMembers p rows (now members) count ⌝ }
+    ensures { λ r. ⌜ r ≡ answer (fitting (length (now (out .entry))) (printed p rows (membersIn (now (members .entry)) count))) ⌝ }
+    ensures { λ _. ⌜ now (out .exit) ≡ buffer (fitting (length (now (out .entry))) (printed p rows (membersIn (now (members .entry)) count))) (now (out .entry)) ⌝ }
+{
+    let n = count as usize;
+    let mut worked = [0u64; 4000];
+    let totals = work(p, rows, members, n, &mut worked);
+    let unfunded = unfunded_of(totals.liability, p.assets);
+    let supplemental = supplemental_of(unfunded, p.interest, p.years);
+    let member_bytes = member_lines_width(members, &worked, n);
+    let plan_bytes = plan_lines_width(count, totals, unfunded, supplemental);
+    if out.len() < member_bytes + plan_bytes {
+        return Answer::Refused(30, 0);
+    }
+    let at = write_member_lines(out, members, &worked, n);
+    let end = write_plan_lines(out, at, count, totals, unfunded, supplemental);
+    Answer::Written(end)
+}
+
+// Writes the one line of a refusal, `refused=number,line`, at the start of `out`.
+pub fn refusal_line(number: u64, line: u64, out: &mut [u8]) -> Answer
+    ensures { λ r. ⌜ r ≡ answer (fitting (length (now (out .entry))) (refusalLine number line)) ⌝ }
+    ensures { λ _. ⌜ now (out .exit) ≡ buffer (fitting (length (now (out .entry))) (refusalLine number line)) (now (out .entry)) ⌝ }
+{
+    if out.len() < pair_line_width(b"refused=", number, line) {
+        return Answer::Refused(30, 0);
+    }
+    let end = write_pair_line(out, 0, b"refused=", number, line);
+    Answer::Written(end)
+}
+
+// What the program prints of a case file, at the start of `out`: its lines, or the one line of its refusal.
+pub fn print_case(case: &[u8], out: &mut [u8]) -> Answer
+    ensures { λ r. ⌜ r ≡ answer (programOf (length (now (out .entry))) (now (case .entry))) ⌝ }
+    ensures { λ _. ⌜ now (out .exit) ≡ buffer (programOf (length (now (out .entry))) (now (case .entry))) (now (out .entry)) ⌝ }
+{
+    match value_case(case, out) {
+        Answer::Written(n) => Answer::Written(n),
+        Answer::Refused(number, line) => refusal_line(number, line, out),
+    }
+}
