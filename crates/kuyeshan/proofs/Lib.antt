@@ -1,0 +1,2 @@
+mod AnswerLaws
+pub mod Numbered

@@ -1,0 +1,81 @@
+-- The statements of specs/Statements.antt: no refusal has the number 0.
+use Prim.Native.Nat.{ℕ, zero, suc, _<_}
+use mathlib.Core.Path.{_≡_, ap}
+use mathlib.Core.Bool.{Bool, true, false, cond}
+use mathlib.Core.Logic.{⊎-elim}
+use native.Mathlib.Omega.{arith}
+use borrow.Author.Tests.{ne-eqb}
+use lib.Dec.{leb, eqb}
+use lib.ListN.{length}
+use Rattle.plan.specs.Acceptance.{loneRefusal}
+use Rattle.casefile.specs.Outcome.{Outcome, values, refusal, andThen}
+use Rattle.casefile.specs.Case.{reading, readingOf, acceptingOf}
+use Rattle.casefile.specs.Answers.{FormNumber, RangeNumber, too-long, cut, tail, count, plan-form, member-form, surplus, of-a-number, of-average, of-rates, of-death, of-weight, of-id, of-entry, of-age, of-salary, of-benefit, of-rise}
+use Rattle.casefile.proofs.Theorems.{reading-gives, accepting-refuses}
+use Rattle.costs.specs.declared.Figures.{Figures}
+use Rattle.costs.specs.declared.Valuation.the-variants.{Valued, Refused}
+use Rattle.costs.specs.Valuation.{figures, valuation}
+use Rattle.valuation.specs.Lines.{printed}
+use Rattle.valuation.specs.Answers.{fitting, valuedOf}
+use Rattle.kuyeshan.specs.Statements.{Numbered, ReadingNumbered, AcceptingNumbered, ValuingNumbered, FittingNumbered, MemberNumbered}
+
+form-above : {n : ℕ} → FormNumber n → 0 < n
+form-above too-long = omega arith
+form-above cut = omega arith
+form-above tail = omega arith
+form-above count = omega arith
+form-above plan-form = omega arith
+form-above member-form = omega arith
+form-above surplus = omega arith
+
+range-above : {n : ℕ} → RangeNumber n → 0 < n
+range-above of-a-number = omega arith
+range-above of-average = omega arith
+range-above of-rates = omega arith
+range-above of-death = omega arith
+range-above of-weight = omega arith
+range-above of-id = omega arith
+range-above of-entry = omega arith
+range-above of-age = omega arith
+range-above of-salary = omega arith
+range-above of-benefit = omega arith
+range-above of-rise = omega arith
+
+-- ---- the case file
+pub reading-numbered : ReadingNumbered
+unfolding readingOf
+reading-numbered case number line is = form-above (reading-gives case number line (ap reading is))
+
+pub accepting-numbered : AcceptingNumbered
+accepting-numbered case number line is =
+    ⊎-elim (λ read. form-above (reading-gives case number line read)) range-above (accepting-refuses case number line is)
+
+-- ---- writing
+pub fitting-numbered : FittingNumbered
+unfolding fitting
+fitting-numbered room lines = by (leb (length lines) room)
+  where
+    by : (b : Bool) → Numbered (cond b (values lines) (refusal 30 0))
+    by true number line is = let z : _≡_ {A = ℕ} 0 1 = cc in absurd (omega arith)
+    by false number line is = let n : number ≡ 30 = cc in omega arith
+
+then-numbered : {A B : Type 0} (o : Outcome A) (more : A → Outcome B) → Numbered o → ((a : A) → Numbered (more a)) → Numbered (andThen o more)
+then-numbered (values a) more first after = after a
+then-numbered (refusal k j) more first after = λ number line is. first number line cc
+
+pub valuing-numbered : ValuingNumbered
+unfolding valuedOf
+valuing-numbered room case =
+    then-numbered (acceptingOf case) _ (accepting-numbered case) (λ c. fitting-numbered room (printed (c .plan) (c .rows) (c .members)))
+
+-- ---- plain values
+pub member-numbered : MemberNumbered
+unfolding valuation
+member-numbered p rows m = by (loneRefusal p rows m) (figures p rows m)
+  where
+    by : (n : ℕ) (f : Figures) (number line : ℕ) → cond (eqb n 0) (Valued f) (Refused n 0) ≡ Refused number line → 0 < number
+    by zero f number line is = let z : _≡_ {A = ℕ} 0 1 = cc in absurd (omega arith)
+    by (suc n) f number line is =
+        let refused = rw (ne-eqb (suc n) 0 (omega arith)) at is in
+        let e : suc n ≡ number = cc in
+        omega arith

@@ -1,0 +1,44 @@
+-- `kuyeshan::kuyeshan_value_member` meets its contract.
+use borrow.Author.Needs.{needs}
+use Rattle.kuyeshan.proofs.AnswerLaws.{valued-is, value-refused}
+use Rattle.kuyeshan.proofs.kuyeshan_value_member.Statement.{statement}
+use Rattle.kuyeshan.proofs.kuyeshan_value_member.Tie as tie
+
+plan-of-requires : tie.Need-plan-of-requires
+plan-of-requires c κs = search needs
+
+member-of-requires : tie.Need-member-of-requires
+member-of-requires c κs = search needs
+
+value-member-requires : tie.Need-value-member-requires
+value-member-requires c κs = search needs
+
+enum-known-f : tie.Need-enum-known-f
+enum-known-f c = search needs
+
+enum-known-number : tie.Need-enum-known-number
+enum-known-number c = search needs
+
+returns : tie.Need-returns
+returns c =
+    let g = c .before .before .before .before .before .before .before .before .args in
+    let v = c .before .before .before .before .value-member .ensures in
+    rw (c .before .before .before .before .before .before .before .plan-of .ensures, c .before .before .before .before .before .before .member-of .ensures) at (valued-is _ (g .figures .now) (v .0) (c .before .before .f .given .1))
+
+returns-2 : tie.Need-returns-2
+returns-2 c =
+    let g = c .before .before .before .before .before .before .before .args in
+    let v = c .before .before .before .value-member .ensures in
+    rw (c .before .before .before .before .before .before .plan-of .ensures, c .before .before .before .before .before .member-of .ensures) at (value-refused _ (g .figures .now) (v .0) (c .before .number .given .1))
+
+pub kuyeshan-value-member-spec : {M : Type 1} → statement M
+kuyeshan-value-member-spec =
+    tie.close
+    (tie.spec
+    plan-of-requires
+    member-of-requires
+    value-member-requires
+    enum-known-f
+    enum-known-number
+    returns
+    returns-2)

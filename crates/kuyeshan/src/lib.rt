@@ -1,0 +1,157 @@
+// The library for programs in C and Rust: the entries of valuation, casefile and costs, exported under C names. An export
+// answers a refusal's number, 0 for none; a line or a count goes to a place that the caller lends. None has a
+// `requires`, and every place that is lent has its equation on every path. embed/kuyeshan.h declares them for C.
+use casefile::Accepting;
+use casefile::Reading;
+use costs::Valuation;
+use plan::Member;
+use plan::Plan;
+use valuation::Answer;
+ghost use mathlib.Core.Path.{_≡_};
+ghost use mathlib.Core.Bool.{false};
+ghost use lib.ListN.{length};
+ghost use Rattle.casefile.specs.Heading.{planOf};
+ghost use Rattle.casefile.specs.Case.{walkOf, acceptingOf};
+ghost use Rattle.costs.specs.Valuation.{valuation};
+ghost use Rattle.valuation.specs.Lines.{refusalLine};
+ghost use Rattle.valuation.specs.Answers.{fitting, valuedOf, buffer};
+ghost use Rattle.kuyeshan.specs.Answers.{numberOf, lineOf, writtenOf};
+ghost use Rattle.kuyeshan.specs.Values.{memberOf, refusedBy, figuresAfter};
+
+// Reads a case file for its form.
+#[no_mangle]
+pub extern "C" fn kuyeshan_read(case: &[u8], line: &mut u64) -> u64
+    ensures { λ r. ⌜ r ≡ numberOf (walkOf false (now (case .entry))) ⌝ }
+    ensures { λ _. ⌜ now (line .exit) ≡ lineOf (walkOf false (now (case .entry))) ⌝ }
+{
+    match casefile::read_case(case) {
+        Reading::Read => {
+            *line = 0;
+            0
+        }
+        Reading::Refused(number, at) => {
+            *line = at;
+            number
+        }
+    }
+}
+
+// Accepts a case file: its form and its ranges. What accepting hands on stays here.
+#[no_mangle]
+pub extern "C" fn kuyeshan_accept(case: &[u8], line: &mut u64) -> u64
+    ensures { λ r. ⌜ r ≡ numberOf (acceptingOf (now (case .entry))) ⌝ }
+    ensures { λ _. ⌜ now (line .exit) ≡ lineOf (acceptingOf (now (case .entry))) ⌝ }
+{
+    let mut rows = [[0u32; 4]; 106];
+    let mut members = [0u64; 4000];
+    match casefile::accept_case(case, &mut rows, &mut members) {
+        Accepting::Accepted(_, _) => {
+            *line = 0;
+            0
+        }
+        Accepting::Refused(number, at) => {
+            *line = at;
+            number
+        }
+    }
+}
+
+// Values a case file: the lines of its members and of the plan, at the start of `out`, or a refusal.
+#[no_mangle]
+pub extern "C" fn kuyeshan_value(
+    case: &[u8],
+    out: &mut [u8],
+    line: &mut u64,
+    written: &mut u64,
+) -> u64
+    ensures { λ r. ⌜ r ≡ numberOf (valuedOf (length (now (out .entry))) (now (case .entry))) ⌝ }
+    ensures { λ _. ⌜ now (out .exit) ≡ buffer (valuedOf (length (now (out .entry))) (now (case .entry))) (now (out .entry)) ⌝ }
+    ensures { λ _. ⌜ now (line .exit) ≡ lineOf (valuedOf (length (now (out .entry))) (now (case .entry))) ⌝ }
+    ensures { λ _. ⌜ now (written .exit) ≡ writtenOf (valuedOf (length (now (out .entry))) (now (case .entry))) ⌝ }
+{
+    match valuation::value_case(case, out) {
+        Answer::Written(n) => {
+            *line = 0;
+            *written = n as u64;
+            0
+        }
+        Answer::Refused(number, at) => {
+            *line = at;
+            *written = 0;
+            number
+        }
+    }
+}
+
+// Writes the one line of a refusal at the start of `out`. It answers 0, or 30 where the line is longer than that.
+#[no_mangle]
+pub extern "C" fn kuyeshan_refusal_line(
+    number: u64,
+    line: u64,
+    out: &mut [u8],
+    written: &mut u64,
+) -> u64
+    ensures { λ r. ⌜ r ≡ numberOf (fitting (length (now (out .entry))) (refusalLine number line)) ⌝ }
+    ensures { λ _. ⌜ now (out .exit) ≡ buffer (fitting (length (now (out .entry))) (refusalLine number line)) (now (out .entry)) ⌝ }
+    ensures { λ _. ⌜ now (written .exit) ≡ writtenOf (fitting (length (now (out .entry))) (refusalLine number line)) ⌝ }
+{
+    match valuation::refusal_line(number, line, out) {
+        Answer::Written(n) => {
+            *written = n as u64;
+            0
+        }
+        Answer::Refused(refusal, _) => {
+            *written = 0;
+            refusal
+        }
+    }
+}
+
+// Values a lone member of a plan, all of them plain numbers: its benefit, present value, normal cost and liability go
+// to `figures`. A refusal leaves `figures` as they were; its line would be 0.
+#[no_mangle]
+pub extern "C" fn kuyeshan_value_member(
+    plan: &[u64; 8],
+    rows: &[[u32; 4]; 106],
+    member: &[u64; 4],
+    figures: &mut [u64; 4],
+) -> u64
+    ensures { λ r. ⌜ r ≡ refusedBy (valuation (planOf (now (plan .entry))) (now (rows .entry)) (memberOf (now (member .entry)))) ⌝ }
+    ensures { λ _. ⌜ now (figures .exit) ≡ figuresAfter (valuation (planOf (now (plan .entry))) (now (rows .entry)) (memberOf (now (member .entry)))) (now (figures .entry)) ⌝ }
+{
+    let p = plan_of(plan);
+    let m = member_of(member);
+    match costs::value_member(p, *rows, m) {
+        Valuation::Valued(f) => {
+            *figures = [f.benefit, f.value, f.cost, f.liability];
+            0
+        }
+        Valuation::Refused(number, _) => number,
+    }
+}
+
+fn plan_of(numbers: &[u64; 8]) -> Plan
+    ensures { λ p. ⌜ p ≡ planOf (now (numbers .entry)) ⌝ }
+{
+    Plan {
+        interest: numbers[0],
+        retire: numbers[1],
+        formula: numbers[2],
+        unit: numbers[3],
+        average: numbers[4],
+        method: numbers[5],
+        assets: numbers[6],
+        years: numbers[7],
+    }
+}
+
+fn member_of(numbers: &[u64; 4]) -> Member
+    ensures { λ m. ⌜ m ≡ memberOf (now (numbers .entry)) ⌝ }
+{
+    Member {
+        id: numbers[0],
+        entry: numbers[1],
+        age: numbers[2],
+        salary: numbers[3],
+    }
+}

@@ -1,0 +1,61 @@
+/* Kuyeshan for C: the valuation of defined-benefit pension plans by five cost methods. Link with libkuyeshan.a, which
+ * `rt staticlib kuyeshan` writes to target/staticlib/; beside memcpy and memset it needs nothing.
+ *
+ * Promised, and proved on every input: each function meets the contract that crates/kuyeshan/src/lib.rt states, an
+ * equation with the definitions of the rules; it always returns, and does nothing undefined. Nothing checks these
+ * declarations against that file, nor what a caller passes.
+ *
+ * Answers: 0, or the number of a refusal; its line is the line of the case file, or 0 where it has none.
+ *   1 to 4     the file as a whole: too long, cut off, bytes after its end, a wrong count of members
+ *   10 to 15   the plan and its table
+ *   20 to 27   a member
+ *   30         the output is longer than the buffer
+ *
+ * Memory: all of it is the caller's. No pointer is null, not even with a length of 0, and what one of them points to
+ * overlaps nothing that another one points to. The library keeps no pointer, allocates nothing and has no state, so
+ * threads may call it at the same time. A call takes less than 128 KiB of stack, which is measured and not proved.
+ */
+#ifndef KUYESHAN_H
+#define KUYESHAN_H
+
+#include <stddef.h>
+#include <stdint.h>
+
+#ifdef __cplusplus
+extern "C" {
+#endif
+
+/* No case file that is accepted is longer. An output buffer of this size is what the program `value` has. */
+#define KUYESHAN_LARGEST 65536
+
+/* Reads a case file for its form alone: 0, or the first refusal, of 1, 2, 3, 4, 10, 20 and 27 only. Sets *line. */
+uint64_t kuyeshan_read(const uint8_t *case_bytes, size_t case_length, uint64_t *line);
+
+/* Accepts a case file, its form and its ranges: 0, or the first refusal. Sets *line. */
+uint64_t kuyeshan_accept(const uint8_t *case_bytes, size_t case_length, uint64_t *line);
+
+/* Values a case file. 0: the lines stand in the first *written bytes of `out`, with no 0 after them, and *line is 0.
+ * Else the first refusal: *line is its line, *written is 0. Bytes of `out` that no line takes stay as they were. */
+uint64_t kuyeshan_value(const uint8_t *case_bytes, size_t case_length, uint8_t *out, size_t out_length, uint64_t *line,
+                        uint64_t *written);
+
+/* Writes the line `refused=number,line`, with its byte 10, to the first *written bytes of `out`, and answers 0; or, where
+ * it is longer than `out`, changes nothing there, sets *written to 0 and answers 30. 50 bytes are always enough. */
+uint64_t kuyeshan_refusal_line(uint64_t number, uint64_t line, uint8_t *out, size_t out_length, uint64_t *written);
+
+/* Values one member of a plan, all as plain numbers.
+ *   plan      interest and, but for formula flat, unit in basis points; money in cents:
+ *             interest, retire, formula (1 flat, 2 career, 3 final), unit, average,
+ *             method (1 AB, 2 BD, 3 BP, 4 CD, 5 CP), assets, years
+ *   rows      for each age from 15 to 120 in turn: death, withdrawal and disability in millionths, and the weight
+ *   member    id, entry age, age, salary in cents a year
+ *   figures   in cents: the yearly benefit, its present value, the normal cost, the liability
+ * 0, or the first refusal, from 10 on, which leaves `figures` as they were. */
+uint64_t kuyeshan_value_member(const uint64_t plan[8], const uint32_t rows[424], const uint64_t member[4],
+                               uint64_t figures[4]);
+
+#ifdef __cplusplus
+}
+#endif
+
+#endif
