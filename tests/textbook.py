@@ -1,0 +1,182 @@
+"""The model plan of source document 000, held to the tables that the book prints.
+
+    python3 tests/textbook.py --check     runs target/bin/value and compares, cell by cell
+    python3 tests/textbook.py --oracle    compares what tests/value_oracle.py prints
+    python3 tests/textbook.py --write     writes examples/textbook.case and its lines
+
+The plan pays 1.5 percent of the final five-year average for each year, interest is 8 percent, pay rises by the merit
+scale and 5 percent a year, the member enters at 30 and retires at 65. For each age, N over V is the part of the benefit
+that a method allots to that year, and L over V the part allotted before it.
+"""
+import sys
+from fractions import Fraction
+from typing import NamedTuple
+
+import value_oracle
+from member_figures import dollars
+from oracle import (AB, BD, BP, CD, CP, FINAL, METHOD_NAMES, METHODS, MILLION, MOST_ASSETS, Figures, Member, Plan,
+                    nearest, table)
+from textbook_tables import (CERTAIN, DISABILITY, LIFE, MERIT, MORTALITY, TABLE_3_5, TABLE_6_2, TABLE_6_3, TERMINATION)
+from value_files import EXAMPLES, answer, case_file
+
+ENTRY, RETIRE = 30, 65
+MODEL = Plan(interest=800, retire=RETIRE, formula=FINAL, unit=150, average=5, method=CP, assets=0, years=15)
+# The weight of merit 1: the largest hundred that keeps age 64's weight within 100000.
+SCALE = 4200
+
+
+# ---- the model plan
+
+def within(printed, age):
+    """A table's number for an age. Beyond its ends stand its first and its last, and no member here needs them."""
+    return Fraction(printed[min(max(age, min(printed)), max(printed))])
+
+
+def model_rates(age):
+    """Staying is the product of what the three single rates leave. From retirement on only death counts.
+
+    What is removed is cut to whole millionths. Three cells lie so near a half that a millionth decides them: with the
+    nearest millionth, or another scale of the weights, CD L/V at 38, CP L/V at 40 or BP N/V at 41 prints 0.01 off.
+    """
+    dying, leaving, disabled = (within(printed, age) for printed in (MORTALITY, TERMINATION, DISABILITY))
+    if age >= RETIRE:
+        return millionths(dying), 0, 0
+    removed = (1 - (1 - dying) * (1 - leaving) * (1 - disabled)) * MILLION // 1
+    withdrawn = millionths((1 - dying) * leaving)
+    return millionths(dying), withdrawn, removed - millionths(dying) - withdrawn
+
+
+def millionths(rate):
+    return nearest(rate.numerator * MILLION, rate.denominator)
+
+
+def model_weight(age):
+    age = min(max(age, min(MERIT)), max(MERIT))
+    weight = SCALE * within(MERIT, age) * Fraction(105, 100)**(age - min(MERIT))
+    return nearest(weight.numerator, weight.denominator)
+
+
+def model_rows():
+    return table(model_rates, model_weight)
+
+
+def one_career():
+    """One person at each age: dollars of pay are ten times the weights, so that the benefit is the same at all."""
+    return [Member(age, ENTRY, age, 1000 * model_weight(age)) for age in range(ENTRY, RETIRE + 1)]
+
+
+def example():
+    """Six who entered at 30, with the assets of a plan that is three quarters funded or so."""
+    pay = {31: '28400.00', 36: '36250.00', 43: '52800.50', 50: '61975.25', 58: '88000.00', 64: '104310.75'}
+    members = [Member(100 + place, ENTRY, age, dollars(salary)) for place, (age, salary) in enumerate(pay.items(), 1)]
+    return case_file(MODEL._replace(assets=dollars('450000.00')), model_rows(), members)
+
+
+# ---- cells
+
+class Cell(NamedTuple):
+    table: str
+    column: str
+    row: int
+    printed: str
+    worked: str
+
+    def agrees(self):
+        return self.printed == self.worked
+
+    def text(self):
+        return self.printed if self.agrees() else f'{self.printed} not {self.worked}'
+
+
+def hundredths(fraction):
+    return value_oracle.amount(nearest(100 * fraction.numerator, fraction.denominator))
+
+
+def percent(part, whole):
+    return hundredths(Fraction(100 * part, whole))
+
+
+def career_figures(valued, method, rows):
+    """The figures of each age by a method, from what is printed for the career's file."""
+    said = valued(case_file(MODEL._replace(method=method), rows, one_career())).decode().split('\n')
+    fields = [line.removeprefix('member=').split(',') for line in said if line.startswith('member=')]
+    return {int(age): Figures(*map(dollars, figures)) for age, *figures in fields}
+
+
+# The AB columns of tables 6-2 and 6-3 rest on another average of pay: at 32 they have 0.37 where table 3-5 has 0.38. It
+# is the unmodified column of table 3-5 that this plan's AB gives.
+COLUMNS = [
+    ('3-5', TABLE_3_5, 0, AB, 'cost'), ('3-5', TABLE_3_5, 1, AB, 'liability'),
+    ('3-5', TABLE_3_5, 2, BP, 'cost'), ('3-5', TABLE_3_5, 3, BP, 'liability'),
+    ('3-5', TABLE_3_5, 4, BD, 'cost'), ('3-5', TABLE_3_5, 5, BD, 'liability'),
+    *(('6-2', TABLE_6_2, column, method, 'cost') for column, method in enumerate((BP, BD, CP, CD), 1)),
+    *(('6-3', TABLE_6_3, column, method, 'liability') for column, method in enumerate((BP, BD, CP, CD), 1)),
+]
+
+
+def career_cells(valued, rows):
+    """Tables 3-5, 6-2 and 6-3. The book prints no accrual at 65."""
+    figures = {method: career_figures(valued, method, rows) for method in METHODS}
+    for name, printed, column, method, figure in COLUMNS:
+        for age, cells in printed.items():
+            if cells[column]:
+                at_age = figures[method][age]
+                yield Cell(name, METHOD_NAMES[method] + {'cost': ' N/V', 'liability': ' L/V'}[figure], age,
+                           cells[column], percent(getattr(at_age, figure), at_age.value))
+
+
+def annuity_cells(valued, rows):
+    """Table 3-6, since A and C don't show in the others: V over B(r) at retirement, unfunded over supplemental."""
+    for rate, printed in LIFE.items():
+        for age, cell in printed.items():
+            plan = MODEL._replace(interest=100 * rate, retire=age)
+            said = valued(case_file(plan, rows, [Member(1, ENTRY, age, dollars('500000.00'))]))
+            benefit, value, *_ = map(dollars, said.decode().split('\n')[0].split(',')[1:])
+            yield Cell('3-6', f'life, {rate} percent', age, cell, hundredths(Fraction(value, benefit)))
+    for rate, printed in CERTAIN.items():
+        for years, cell in printed.items():
+            plan = MODEL._replace(interest=100 * rate, years=years, assets=MOST_ASSETS)
+            said = valued(case_file(plan, rows, []))
+            unfunded, supplemental = (dollars(line.split('=')[1]) for line in said.decode().split('\n')[1:3])
+            yield Cell('3-6', f'certain, {rate} percent', years, cell, hundredths(Fraction(unfunded, supplemental)))
+
+
+# ---- comparing
+
+def show(cells):
+    """A table for each of the book's: what it prints, and what is worked where that differs."""
+    for name in sorted({cell.table for cell in cells}):
+        here = [cell for cell in cells if cell.table == name]
+        columns = list(dict.fromkeys(cell.column for cell in here))
+        print(f'table {name}'.ljust(10), *(column.rjust(19) for column in columns))
+        for row in sorted({cell.row for cell in here}):
+            texts = {cell.column: cell.text() for cell in here if cell.row == row}
+            print(str(row).ljust(10), *(texts.get(column, '').rjust(19) for column in columns))
+
+
+def check(valued):
+    cells = [*career_cells(valued, model_rows()), *annuity_cells(valued, model_rows())]
+    show(cells)
+    differing = [cell for cell in cells if not cell.agrees()]
+    if differing:
+        sys.exit(f'textbook: these cells differ: {differing}')
+    print(f'textbook: the {len(cells)} cells compared of tables 3-5, 6-2, 6-3 and 3-6 agree to the printed hundredth')
+
+
+def main():
+    case = example()
+    if sys.argv[1:] == ['--check']:
+        if (EXAMPLES / 'textbook.case').read_bytes() != case:
+            sys.exit('textbook: examples/textbook.case differs from what this program makes')
+        check(answer)
+    elif sys.argv[1:] == ['--oracle']:
+        check(value_oracle.lines)
+    elif sys.argv[1:] == ['--write']:
+        (EXAMPLES / 'textbook.case').write_bytes(case)
+        (EXAMPLES / 'textbook.lines').write_bytes(value_oracle.lines(case))
+    else:
+        sys.exit(__doc__)
+
+
+if __name__ == '__main__':
+    main()

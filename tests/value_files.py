@@ -1,0 +1,296 @@
+"""Whole case files: what the program value prints, held to tests/value_oracle.py byte by byte.
+
+    python3 tests/value_files.py --check [--files N] [--seed K]
+
+The program is run once for each file: those that document 01 works by hand, those at a bound, damaged ones, and N drawn
+ones. What it prints as supplemental is also held to its limit, and a member's line must not hang on the other members.
+"""
+import argparse
+import random
+import re
+import subprocess
+import sys
+from collections import Counter
+from itertools import zip_longest
+from pathlib import Path
+
+import case_oracle
+from accuracy_search import largest_salary
+from case_files import ACCEPTING, cut, damaged, file, filled, good_files, heading, many, member, ranges, stray_bytes
+from member_figures import (at_largest_benefit, dollars, drawn_member, drawn_plan, drawn_rates, drawn_weights,
+                            extreme_cases, level_table, straying_cases)
+from oracle import BD, FINAL, METHOD_NAMES, MOST_ASSETS, MOST_SALARY, Member, Plan, short_table, table
+from value_oracle import amount, exact_supplemental, lines, supplemental_limit, valued
+
+ROOT = Path(__file__).parent.parent
+PROGRAM = ROOT / 'target' / 'bin' / 'value'
+EXAMPLES = ROOT / 'examples'
+FORMULA_NAMES = {1: 'flat', 2: 'career', 3: 'final'}
+# No output is longer. A member line has an id of 9 digits, a B(r) of up to 1000000.00, and a V, N and L of less than
+# 100000000.00 each, since A(50) is at most 71: 64 bytes. So the lines fit the program's buffer, and 30 can't occur.
+LONGEST = 64112
+
+
+def case_file(plan, rows, members):
+    """The case file of plain values."""
+    named = plan._replace(formula=FORMULA_NAMES[plan.formula], method=METHOD_NAMES[plan.method],
+                          assets=amount(plan.assets))
+    return file(heading(**named._asdict()), rows, [member(m.id, m.entry, m.age, amount(m.salary)) for m in members])
+
+
+def answer(case):
+    """What the program writes for a file."""
+    return subprocess.run([PROGRAM], input=case, stdout=subprocess.PIPE, check=True).stdout
+
+
+# ---- the cases that document 01 works by hand
+
+def worked():
+    """By name, each with the lines that its output begins with as the paper has them: `*` is a field it leaves out."""
+    short, level = short_table(), level_table()
+    yield 'the short table', file(heading(), short, [member(7)]), (
+        b'member=7,200.00,181.82,86.58,95.24\ntotal=1,181.82,86.58,95.24\nunfunded=75.24\nsupplemental=39.41\n')
+    yield 'unfunded -100.00, years 2', file(heading(assets='100.00'), short, []), (
+        b'total=0,0.00,0.00,0.00\nunfunded=-100.00\nsupplemental=-52.38\n')
+    yield 'the empty file', b'', b'refused=2,1\n'
+    yield 'end=0', file(heading(), short, []), b'total=0,0.00,0.00,0.00\n'
+    yield 'salary 4125.50.75', file(heading(), short, [member(7, salary='4125.50.75')]), b'refused=20,115\n'
+    yield from worked_methods(short, level)
+    yield from worked_benefits(short)
+    yield from worked_bounds(short, level)
+
+
+def worked_methods(short, level):
+    for method, said in dict(AB=b'90.91,90.91', BD=b'90.91,90.91', BP=b'95.24,86.58', CP=b'90.91,90.91').items():
+        yield f'{method} at 64', file(heading(method=method), short, [member(7)]), b'member=7,200.00,181.82,' + said
+    for method in METHOD_NAMES.values():
+        cost = b'82.65' if method == 'CP' else b'*'
+        case = file(heading(method=method), short, [member(7, 63, 63)])
+        yield f'{method} at 63', case, b'member=7,200.00,165.29,%s,0.00\n' % cost
+    for method in METHOD_NAMES.values():
+        case = file(heading(interest=0, method=method), level, [member(1, 35, 45)])
+        yield f'{method}, interest 0', case, b'member=1,*,168000.00,5600.00,56000.00\n'
+
+
+def worked_benefits(short):
+    paid = [member(7, salary='10000.00')]
+    yield 'career', file(heading(formula='career', unit=200), short, paid), b'member=7,381.82,'
+    for average, said in ((2, b'member=7,381.82,'), (1, b'member=7,400.00,')):
+        yield f'final, average {average}', file(heading(formula='final', unit=200, average=average), short, paid), said
+
+
+def worked_bounds(short, level):
+    stands = b'total=0,0.00,0.00,0.00\n'
+    for retire, said in ((49, b'refused=11,2\n'), (50, stands), (75, stands), (76, b'refused=11,2\n')):
+        yield f'retire {retire}', file(heading(retire=retire), short, []), said
+    for rate, said in ((300000, stands), (300001, b'refused=13,24\n')):
+        row = 400000, 300000, rate, 1000
+        yield f'rates that sum to {sum(row[:3])}', file(heading(), {**short, 30: row}, []), said
+    yield 'weight 999', file(heading(), {**short, 15: (0, 0, 0, 999)}, []), b'refused=15,9\n'
+    final = heading(formula='final', unit=500, average=1)
+    for service, said in ((20, b'member=7,1000000.00,'), (21, b'refused=25,115\n')):
+        members = [member(7, 65 - service, 60, '1000000.00')]
+        yield f'salary 1000000.00, {service} years', file(final, level, members), said
+
+
+def check_worked():
+    """The oracle prints what the paper works by hand, and what is stored beside the examples."""
+    for name, case, said in worked():
+        if not re.match(re.escape(said).replace(rb'\*', rb'[^,\n]*'), lines(case)):
+            differ(case, f'{name}: document 01 says {said}', f'the oracle {lines(case)}')
+    for example in examples():
+        stored = example.with_suffix('.lines').read_bytes()
+        if lines(example.read_bytes()) != stored:
+            sys.exit(f'value_files: the lines of {example.name} are not what the oracle prints')
+
+
+def examples():
+    return sorted(EXAMPLES.glob('*.case'))
+
+
+# ---- files at bounds
+
+def bounds():
+    """Of a number's range, of the file's length and of the count of members."""
+    small, short = good_files()[0], short_table()
+    return [*good_files(), *ranges(), b'\n', small[:-1], small + b'\n', small.replace(b'end=1', b'end=2'),
+            file(heading(average=1), short, []), file(heading(), {**short, 120: (999999, 1, 0, 1100)}, []),
+            *map(many, (999, 1000, 1001)), *map(filled, (65536, 65537, 300000))]
+
+
+def largest_figures(rng):
+    """One member each: the largest benefits, the ends of a member's ages, and every rounding pushing one way."""
+    cases = [*at_largest_benefit(), *extreme_cases(), *straying_cases(rng)]
+    return [case_file(plan, rows, [only]) for plan, rows, only in cases]
+
+
+def longest():
+    """Each line as long as it can be: pay rises a hundredfold before retirement, nobody leaves before 120."""
+    rows = table(lambda k: (0, 0, 0), lambda k: 1000 if k < 49 else 100000)
+    members = [Member(id, 46, 48, dollars('50000.00')) for id in range(999999000, 1000000000)]
+    case = case_file(Plan(0, 50, FINAL, 500, 1, BD, MOST_ASSETS, 1), rows, members)
+    assert len(lines(case)) == LONGEST and lines(case, LONGEST - 1) == b'refused=30,0\n'
+    return case
+
+
+def balanced(rng):
+    """So many cents unfunded, or over; some of these make a supplemental of 0.00, which has no sign."""
+    for interest, years in ((0, 1), (0, 2), (0, 3), (0, 40), (1000, 2), (2000, 40)):
+        plan = drawn_plan(rng)._replace(interest=interest, years=years)
+        rows = drawn_rows(rng)
+        members = list(drawn_members(rng, plan, rows, 3))
+        liability = valued(plan, rows, members).total('liability')
+        for cents in (0, 1, 2, 3, 20, 10000):
+            yield case_file(plan._replace(assets=liability + cents), rows, members)
+            yield case_file(plan._replace(assets=max(0, liability - cents)), rows, members)
+
+
+# ---- damaged files
+
+def damaged_files(rng):
+    """Half of them outside the rows, which are most of a file."""
+    small, *others = good_files()
+    files = rng.sample(cut(small), 50)
+    for case in (small, *others[1:]):
+        made = list(damaged(case))
+        rows = case[case.index(b'row='):case.rindex(b'row=')]
+        files += rng.sample(made, 75) + rng.sample([one for one in made if rows in one], 75)
+        files += stray_bytes(case, rng, 25)
+    return files
+
+
+# ---- drawn files
+
+def drawn_rows(rng):
+    """Drawn ones; or those of an example, for they are like real ones."""
+    if rng.random() < 0.8:
+        return table(drawn_rates(rng), drawn_weights(rng))
+    _, rows, _ = case_oracle.walk(rng.choice(examples()).read_bytes(), True)
+    return rows
+
+
+def drawn_members(rng, plan, rows, count):
+    """Accepted ones: the salary is the largest where it would be over it."""
+    for id in sorted(rng.sample(range(1, 1000000000), count)):
+        drawn = drawn_member(rng, plan, rows)
+        age = rng.choice([drawn.age, drawn.age, drawn.age, plan.retire - 1])
+        drawn = drawn._replace(id=id, age=age)
+        yield drawn._replace(salary=min(drawn.salary, largest_salary(plan, rows, drawn)))
+
+
+def drawn_valued(rng, count):
+    """A plan, rows and so many members, all accepted."""
+    plan, rows = drawn_plan(rng), drawn_rows(rng)
+    return plan, rows, list(drawn_members(rng, plan, rows, count))
+
+
+def drawn_file(rng, count):
+    """With assets about the liability in most, so that the unfunded has either sign. Some have a fault."""
+    plan, rows, members = drawn_valued(rng, count)
+    liability = valued(plan, rows, members).total('liability')
+    assets = rng.choice([0, plan.assets, rng.randint(0, 2 * liability), max(0, liability + rng.randint(-9, 9))])
+    plan = plan._replace(assets=assets)
+    fault = rng.choices([None, 'member', 'byte'], [85, 5, 10])[0]
+    if fault == 'member':
+        members.append(faulty_member(rng, plan, rows))
+    case = case_file(plan, rows, members)
+    return next(stray_bytes(case, rng, 1)) if fault == 'byte' else case
+
+
+def faulty_member(rng, plan, rows):
+    """A last member, with one field over its bound or a salary that makes the benefit too large."""
+    last = drawn_member(rng, plan, rows)._replace(id=999999999)
+    faults = [dict(id=0), dict(id=1000000000), dict(entry=14), dict(entry=plan.retire), dict(age=last.entry - 1),
+              dict(age=plan.retire + 1), dict(salary=MOST_SALARY), dict(salary=MOST_SALARY + 1)]
+    return last._replace(**rng.choice(faults))
+
+
+def drawn_files(rng, count):
+    for _ in range(count):
+        members, = rng.choices([0, 1, 2, 3, 8, 100], [10, 40, 20, 20, 9, 1])
+        yield drawn_file(rng, members)
+
+
+def files(rng, count):
+    yield from (case for _, case, _ in worked())
+    yield from (example.read_bytes() for example in examples())
+    yield from bounds()
+    yield longest()
+    yield from largest_figures(rng)
+    yield from balanced(rng)
+    yield from damaged_files(rng)
+    yield from (case_file(*drawn_valued(rng, 1000)) for _ in range(5))
+    yield from drawn_files(rng, count)
+
+
+# ---- comparing
+
+def differ(case, *said):
+    sys.exit('\n'.join(['value_files: the file', case.decode(errors='backslashreplace'), *said]))
+
+
+def hold(case, refused, signs):
+    """Holds what the program writes to the oracle, and counts it: by the refusal's number, or by the plan's signs."""
+    expected, said = lines(case), answer(case)
+    if said != expected:
+        pairs = zip_longest(expected.split(b'\n'), said.split(b'\n'))
+        place, (line, wrong) = next((at, both) for at, both in enumerate(pairs, 1) if both[0] != both[1])
+        differ(case, f'line {place} of the output: {line} is expected, and the program writes {wrong}')
+    if said.startswith(b'refused='):
+        refused[int(said[8:].split(b',')[0])] += 1
+    else:
+        signs[hold_supplemental(case, said)] += 1
+
+
+def hold_supplemental(case, said):
+    """Holds it to its limit. The answer is the signs of the unfunded and of the supplemental."""
+    plan = case_oracle.heading(case_oracle.Lines(case), False)
+    unfunded, supplemental = (dollars(line.split('=')[1]) for line in said.decode().split('\n')[-3:-1])
+    if abs(supplemental - exact_supplemental(plan, unfunded)) > supplemental_limit(unfunded):
+        differ(case, f'unfunded {unfunded}, supplemental {supplemental}: it is over its limit')
+    return sign(unfunded), sign(supplemental)
+
+
+def sign(number):
+    return (number > 0) - (number < 0)
+
+
+def check_independence(rng, pairs):
+    """Two files that agree in the lines before the members and in one member line print the same line for it."""
+    for _ in range(pairs):
+        plan, rows, members = drawn_valued(rng, 5)
+        kept = rng.choice(members)
+        others = [other for other in drawn_members(rng, plan, rows, 4) if other.id != kept.id]
+        both = [case_file(plan, rows, sorted(group)) for group in (members, [kept, *others])]
+        printed = [[line for line in answer(case).split(b'\n') if line.startswith(b'member=%d,' % kept.id)]
+                   for case in both]
+        if len(printed[0]) != 1 or printed[0] != printed[1]:
+            differ(both[0], f'member {kept.id} is printed {printed[0]} here, and {printed[1]} among others')
+
+
+def check(count, seed):
+    check_worked()
+    rng, refused, signs = random.Random(seed), Counter(), Counter()
+    for case in files(rng, count):
+        hold(case, refused, signs)
+    check_independence(rng, 50)
+    if set(refused) != ACCEPTING:
+        sys.exit(f'value_files: the files give the refusals {sorted(refused)}')
+    if set(signs) != {(1, 1), (1, 0), (0, 0), (-1, 0), (-1, -1)}:
+        sys.exit(f'value_files: the signs of unfunded and supplemental are {sorted(signs)}')
+    numbers = ', '.join(f'{number}: {refused[number]}' for number in sorted(refused))
+    print(f'value_files: {refused.total() + signs.total()} files agree; {signs.total()} valued, '
+          f'{refused.total()} refused ({numbers})')
+
+
+def main():
+    parser = argparse.ArgumentParser(description=__doc__, formatter_class=argparse.RawDescriptionHelpFormatter)
+    parser.add_argument('--check', action='store_true', required=True)
+    parser.add_argument('--files', type=int, default=2000, help='how many drawn ones')
+    parser.add_argument('--seed', type=int, default=11)
+    chosen = parser.parse_args()
+    check(chosen.files, chosen.seed)
+
+
+if __name__ == '__main__':
+    main()

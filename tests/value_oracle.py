@@ -1,0 +1,84 @@
+"""What the program value prints for a case file, in Python: another program, written from document 01.
+
+    python3 tests/value_oracle.py < FILE    prints it
+
+The file is read and accepted by case_oracle.py, and its members are valued by oracle.py.
+"""
+import sys
+from fractions import Fraction
+from typing import NamedTuple
+
+from case_oracle import Refused, walk
+from oracle import Costs, Factors, Plan, S, certain, nearest
+
+ROOM = 65536
+
+
+def amount(cents):
+    """In the case file's form. Only what is below zero has a sign."""
+    dollars, rest = divmod(abs(cents), 100)
+    return f'{"-" if cents < 0 else ""}{dollars}.{rest:02}'
+
+
+# ---- the plan's figures
+
+def supplemental(plan, unfunded):
+    """(7.8b), in whole cents."""
+    return nearest(unfunded * S, certain(plan.interest, plan.years, nearest))
+
+
+def exact_supplemental(plan, unfunded):
+    """The same equation as a fraction, which starts from the unfunded as printed."""
+    return Fraction(unfunded * S) / certain(plan.interest, plan.years, Fraction)
+
+
+def supplemental_limit(unfunded):
+    """How far the printed supplemental may lie from the exact one: half a cent and a two-billionth of the unfunded."""
+    return Fraction(1, 2) + Fraction(abs(unfunded), 2 * S)
+
+
+class Valuation(NamedTuple):
+    plan: Plan
+    members: list
+    figures: list
+
+    def total(self, field):
+        return sum(getattr(figures, field) for figures in self.figures)
+
+    def unfunded(self):
+        return self.total('liability') - self.plan.assets
+
+    def lines(self):
+        for member, figures in zip(self.members, self.figures):
+            yield f'member={member.id},' + ','.join(map(amount, figures))
+        totals = [self.total(field) for field in ('value', 'cost', 'liability')]
+        yield f'total={len(self.members)},' + ','.join(map(amount, totals))
+        yield f'unfunded={amount(self.unfunded())}'
+        yield f'supplemental={amount(supplemental(self.plan, self.unfunded()))}'
+
+
+def valued(plan, rows, members):
+    """The valuation of an accepted plan and its members, by the plan's method and at each member's own age."""
+    factors = Factors(plan, rows, nearest)
+    return Valuation(plan, members, [Costs(plan, rows, m, factors).figures(plan.method, m.age) for m in members])
+
+
+# ---- what is printed
+
+def lines(case, room=ROOM):
+    """The bytes that the program writes for these, where its output buffer has so many."""
+    try:
+        written = ended(valued(*walk(case, True)).lines())
+        if len(written) > room:
+            raise Refused(30, 0)
+    except Refused as refusal:
+        return ended(['refused=%d,%d' % refusal.args])
+    return written
+
+
+def ended(lines):
+    return ''.join(f'{line}\n' for line in lines).encode()
+
+
+if __name__ == '__main__':
+    sys.stdout.buffer.write(lines(sys.stdin.buffer.read()))
