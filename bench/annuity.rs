@@ -2,19 +2,15 @@
 //! A call on either side reads 424 numbers into rows, tests them, fills and hands the factors out. Where the last row
 //! is refused it costs the reading and the testing alone: that is taken off, and the fill is left. The sides take
 //! turns, and the best round of each counts. Exits 1 where their factors differ.
+mod factors;
+
+use factors::{AGES, Factors};
 use std::process::exit;
 use std::time::Instant;
 
 const TABLES: usize = 16;
 const PASSES: usize = 8;
 const ROUNDS: usize = 200;
-
-const AGES: usize = 106;
-const FIRST: usize = 15;
-const LAST: usize = 120;
-const S: u64 = 1_000_000_000;
-
-type Factors = [u64; AGES];
 
 mod rattle {
     use super::{Factors, Table};
@@ -53,9 +49,8 @@ mod rattle {
 }
 
 mod rust {
-    use super::{AGES, FIRST, Factors, LAST, S, Table};
-
-    type Rows = [[u32; 4]; AGES];
+    use super::Table;
+    use super::factors::{AGES, Factors, LAST, Row, Rows, S, fill};
 
     #[inline(never)]
     pub fn life_annuity(t: &Table, out: &mut Factors) -> bool {
@@ -68,7 +63,7 @@ mod rust {
     }
 
     #[inline(always)]
-    fn filled(t: &Table, amount: impl Fn(&[u32; 4]) -> u64, top: usize, start: u64, out: &mut Factors) -> bool {
+    fn filled(t: &Table, amount: impl Fn(&Row) -> u64, top: usize, start: u64, out: &mut Factors) -> bool {
         let rows = rows_of(&t.numbers);
         let sound = rows.iter().all(is_sound);
         if sound {
@@ -85,33 +80,8 @@ mod rust {
         rows
     }
 
-    fn is_sound(row: &[u32; 4]) -> bool {
+    fn is_sound(row: &Row) -> bool {
         row[0] as u64 + row[1] as u64 + row[2] as u64 <= 1_000_000 && row[3] <= 100_000
-    }
-
-    #[inline(always)]
-    fn fill(rows: &Rows, r: usize, i: u64, amount: impl Fn(&[u32; 4]) -> u64, top: usize, start: u64) -> Factors {
-        let mut a = [0; AGES];
-        let mut j = top - FIRST;
-        a[j] = start;
-        while j > 0 {
-            let f = a[j];
-            j -= 1;
-            a[j] = amount(&rows[j]) + step(&rows[j], j + FIRST < r, i, f);
-        }
-        a
-    }
-
-    fn step(row: &[u32; 4], works: bool, i: u64, f: u64) -> u64 {
-        let others = if works { row[1] + row[2] } else { 0 };
-        let staying = 1_000_000 - (row[0] + others);
-        nearest(f as u128 * staying as u128, 100 * (10_000 + i as u128)) as u64
-    }
-
-    fn nearest(n: u128, d: u128) -> u128 {
-        let q = n / d;
-        let r = n - q * d;
-        q + (r >= d - r) as u128
     }
 }
 

@@ -1,0 +1,153 @@
+//! What reading and accepting a case file cost in Rattle, and the same in Rust, in one pass over the bytes: reader.rs.
+//! bench/casefile builds and runs it. The sides take turns, and the best round of each counts. Exits 1 where an answer
+//! differs, of these files or of many damaged ones.
+#[expect(dead_code, reason = "what is read is not valued here")]
+mod factors;
+mod files;
+#[expect(dead_code, reason = "what is read is not valued here")]
+mod reader;
+
+use files::{Random, case, member, row};
+use reader::{LARGEST, MEMBERS};
+use std::process::exit;
+use std::time::Instant;
+
+const PASSES: usize = 4;
+const ROUNDS: usize = 100;
+const DAMAGED: usize = 2_000;
+
+const HEADING: &str =
+    "interest=600\nretire=65\nformula=career\nunit=150\naverage=0\nmethod=BP\nassets=250000000.00\nyears=20\n";
+
+/// A refusal's number and line, (0, 0) for none.
+type Answer = (u64, u64);
+
+mod rattle {
+    use super::Answer;
+
+    mod exported {
+        unsafe extern "C" {
+            pub fn kuyeshan_read(case: *const u8, case_len: usize, line: *mut u64) -> u64;
+            pub fn kuyeshan_accept(case: *const u8, case_len: usize, line: *mut u64) -> u64;
+        }
+    }
+
+    pub fn read(case: &[u8]) -> Answer {
+        let mut line = 0;
+        let number = unsafe { exported::kuyeshan_read(case.as_ptr(), case.len(), &mut line) };
+        (number, line)
+    }
+
+    pub fn accept(case: &[u8]) -> Answer {
+        let mut line = 0;
+        let number = unsafe { exported::kuyeshan_accept(case.as_ptr(), case.len(), &mut line) };
+        (number, line)
+    }
+}
+
+mod rust {
+    use super::{Answer, reader::walk};
+
+    pub fn read(case: &[u8]) -> Answer {
+        walk(case, false).err().unwrap_or((0, 0))
+    }
+
+    pub fn accept(case: &[u8]) -> Answer {
+        walk(case, true).err().unwrap_or((0, 0))
+    }
+}
+
+/// A row and a member whose numbers are as wide as a file of 65,536 bytes can hold. Their form is right.
+fn wide_row(age: usize) -> String {
+    format!("row={age},{},{},{},{}\n", 10_000 + age, 20_000 + age, 30_000 + age, 40_000 + age)
+}
+
+fn wide_member(j: usize) -> String {
+    let wide = |first: usize| first * 100_000_000_000 + 7_654_321 * j;
+    format!("member={},{},{},{}.{:02}\n", wide(1), wide(2), wide(3), wide(4), j % 100)
+}
+
+/// One side's best time for a file, in µs.
+struct Side {
+    answer: fn(&[u8]) -> Answer,
+    best: f64,
+}
+
+impl Side {
+    fn round(&mut self, case: &[u8]) {
+        let start = Instant::now();
+        for _ in 0..PASSES {
+            assert_eq!((self.answer)(case), (0, 0));
+        }
+        self.best = self.best.min(start.elapsed().as_nanos() as f64 / (1_000 * PASSES) as f64);
+    }
+}
+
+/// A file that nothing is refused in, and what is done with it.
+struct Case {
+    name: &'static str,
+    bytes: Vec<u8>,
+    rattle: Side,
+    rust: Side,
+}
+
+impl Case {
+    fn new(name: &'static str, bytes: Vec<u8>, rattle: fn(&[u8]) -> Answer, rust: fn(&[u8]) -> Answer) -> Case {
+        assert!(bytes.len() <= LARGEST);
+        let side = |answer| Side { answer, best: f64::INFINITY };
+        Case { name, bytes, rattle: side(rattle), rust: side(rust) }
+    }
+
+    fn reading(name: &'static str, bytes: Vec<u8>) -> Case {
+        Case::new(name, bytes, rattle::read, rust::read)
+    }
+
+    fn accepting(name: &'static str, bytes: Vec<u8>) -> Case {
+        Case::new(name, bytes, rattle::accept, rust::accept)
+    }
+
+    fn round(&mut self) {
+        self.rattle.round(&self.bytes);
+        self.rust.round(&self.bytes);
+    }
+
+    fn print(&self) {
+        let title = format!("{}, {} bytes", self.name, self.bytes.len());
+        let (rattle, rust) = (self.rattle.best, self.rust.best);
+        println!("{title:62} {rattle:8.1} {rust:8.1} {:7.2}", rattle / rust);
+    }
+
+    /// Exits 1 where the sides answer a damaged file differently.
+    fn compare(&self, random: &mut Random) {
+        for _ in 0..DAMAGED {
+            let bytes = random.damaged(&self.bytes);
+            let (rattle, rust) = ((self.rattle.answer)(&bytes), (self.rust.answer)(&bytes));
+            if rattle != rust {
+                println!("{}, damaged: Rattle answers {rattle:?} and Rust {rust:?}", self.name);
+                exit(1);
+            }
+        }
+    }
+}
+
+fn main() {
+    let wide = case(HEADING, MEMBERS, wide_row, wide_member);
+    let many = case(HEADING, MEMBERS, row, member);
+    let none = case(HEADING, 0, row, member);
+    let mut cases = [
+        Case::reading("reading 1,000 members, numbers of 12 digits", wide),
+        Case::reading("reading 1,000 members", many.clone()),
+        Case::reading("reading no members", none.clone()),
+        Case::accepting("accepting 1,000 members", many),
+        Case::accepting("accepting no members", none),
+    ];
+    for _ in 0..ROUNDS {
+        cases.iter_mut().for_each(Case::round);
+    }
+    let title = format!("one file, µs, best of {ROUNDS} rounds");
+    println!("{title:62} {:>8} {:>8} {:>7}", "Rattle", "Rust", "ratio");
+    cases.iter().for_each(Case::print);
+    let mut random = Random(1);
+    cases.iter().for_each(|case| case.compare(&mut random));
+    println!("{} damaged files: the same answers", cases.len() * DAMAGED);
+}

@@ -1,0 +1,37 @@
+//! The year step and the fill of factors in Rust's u128, for the benches to hold the proved ones to: document 01, 'Year
+//! step'. Age k stands at place k - 15.
+
+pub const AGES: usize = 106;
+pub const FIRST: usize = 15;
+pub const LAST: usize = 120;
+pub const S: u64 = 1_000_000_000;
+
+/// Death, withdrawal and disability in millionths, and the weight.
+pub type Row = [u32; 4];
+pub type Rows = [Row; AGES];
+pub type Factors = [u64; AGES];
+
+#[inline(always)]
+pub fn fill(rows: &Rows, r: usize, i: u64, amount: impl Fn(&Row) -> u64, top: usize, start: u64) -> Factors {
+    let mut a = [0; AGES];
+    let mut j = top - FIRST;
+    a[j] = start;
+    while j > 0 {
+        let f = a[j];
+        j -= 1;
+        a[j] = amount(&rows[j]) + step(&rows[j], j + FIRST < r, i, f);
+    }
+    a
+}
+
+fn step(row: &Row, works: bool, i: u64, f: u64) -> u64 {
+    let others = if works { row[1] + row[2] } else { 0 };
+    let staying = 1_000_000 - (row[0] + others);
+    nearest(f as u128 * staying as u128, 100 * (10_000 + i as u128)) as u64
+}
+
+pub fn nearest(n: u128, d: u128) -> u128 {
+    let q = n / d;
+    let r = n - q * d;
+    q + (r >= d - r) as u128
+}
