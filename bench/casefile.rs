@@ -1,9 +1,10 @@
-//! What reading and accepting a case file cost in Rattle, and the same in Rust, in one pass over the bytes: reader.rs.
-//! bench/casefile builds and runs it. The sides take turns, and the best round of each counts. Exits 1 where an answer
-//! differs, of these files or of many damaged ones.
+//! What reading and accepting a case file cost in Rattle, and the same in Rust, in one pass over the bytes: form.rs for
+//! reading, reader.rs for accepting. bench/casefile builds and runs it. The sides take turns, and the best round of each
+//! counts. Exits 1 where an answer differs, of these files or of many damaged ones.
 #[expect(dead_code, reason = "what is read is not valued here")]
 mod factors;
 mod files;
+mod form;
 #[expect(dead_code, reason = "what is read is not valued here")]
 mod reader;
 
@@ -13,7 +14,7 @@ use std::process::exit;
 use std::time::Instant;
 
 const PASSES: usize = 4;
-const ROUNDS: usize = 100;
+const ROUNDS: usize = 400;
 const DAMAGED: usize = 2_000;
 
 const HEADING: &str =
@@ -45,16 +46,8 @@ mod rattle {
     }
 }
 
-mod rust {
-    use super::{Answer, reader::walk};
-
-    pub fn read(case: &[u8]) -> Answer {
-        walk(case, false).err().unwrap_or((0, 0))
-    }
-
-    pub fn accept(case: &[u8]) -> Answer {
-        walk(case, true).err().unwrap_or((0, 0))
-    }
+fn accept_in_rust(case: &[u8]) -> Answer {
+    reader::walk(case, true).err().unwrap_or((0, 0))
 }
 
 /// A row and a member whose numbers are as wide as a file of 65,536 bytes can hold. Their form is right.
@@ -99,11 +92,11 @@ impl Case {
     }
 
     fn reading(name: &'static str, bytes: Vec<u8>) -> Case {
-        Case::new(name, bytes, rattle::read, rust::read)
+        Case::new(name, bytes, rattle::read, form::read)
     }
 
     fn accepting(name: &'static str, bytes: Vec<u8>) -> Case {
-        Case::new(name, bytes, rattle::accept, rust::accept)
+        Case::new(name, bytes, rattle::accept, accept_in_rust)
     }
 
     fn round(&mut self) {
