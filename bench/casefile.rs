@@ -46,8 +46,16 @@ mod rattle {
     }
 }
 
-fn accept_in_rust(case: &[u8]) -> Answer {
-    reader::walk(case, true).err().unwrap_or((0, 0))
+mod rust {
+    use super::{Answer, form::form, reader::walk};
+
+    pub fn read(case: &[u8]) -> Answer {
+        form(case).err().unwrap_or((0, 0))
+    }
+
+    pub fn accept(case: &[u8]) -> Answer {
+        walk(case, true).err().unwrap_or((0, 0))
+    }
 }
 
 /// A row and a member whose numbers are as wide as a file of 65,536 bytes can hold. Their form is right.
@@ -92,11 +100,11 @@ impl Case {
     }
 
     fn reading(name: &'static str, bytes: Vec<u8>) -> Case {
-        Case::new(name, bytes, rattle::read, form::read)
+        Case::new(name, bytes, rattle::read, rust::read)
     }
 
     fn accepting(name: &'static str, bytes: Vec<u8>) -> Case {
-        Case::new(name, bytes, rattle::accept, accept_in_rust)
+        Case::new(name, bytes, rattle::accept, rust::accept)
     }
 
     fn round(&mut self) {

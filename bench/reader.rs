@@ -169,10 +169,10 @@ fn member_rule(plan: &Plan, rows: &Rows, before: u64, m: &Member) -> u64 {
 
 /// The bytes that are still to be read.
 #[derive(Clone, Copy)]
-struct Rest<'a>(&'a [u8]);
+pub struct Rest<'a>(pub &'a [u8]);
 
 impl Rest<'_> {
-    fn plan(&mut self, ranges: bool) -> Result<Plan, Refusal> {
+    pub fn plan(&mut self, ranges: bool) -> Result<Plan, Refusal> {
         const FORMULAS: [(&[u8], Formula); 3] =
             [(b"flat", Formula::Flat), (b"career", Formula::Career), (b"final", Formula::Final)];
         const METHODS: [(&[u8], Method); 5] =
@@ -241,14 +241,14 @@ impl Rest<'_> {
 
     /// Takes a line with its byte 10, or says which refusal the line is.
     #[inline(always)]
-    fn line<T>(&mut self, number: u64, line: u64, read: impl Fn(&mut Self) -> Option<T>) -> Result<T, Refusal> {
+    pub fn line<T>(&mut self, number: u64, line: u64, read: impl Fn(&mut Self) -> Option<T>) -> Result<T, Refusal> {
         let start = *self;
         let value = read(self).filter(|_| self.key(b"\n").is_some());
         value.ok_or_else(|| start.refused(number, line))
     }
 
     #[cold]
-    fn refused(self, number: u64, line: u64) -> Refusal {
+    pub fn refused(self, number: u64, line: u64) -> Refusal {
         (if self.0.contains(&b'\n') { number } else { 2 }, line)
     }
 
@@ -276,7 +276,7 @@ impl Rest<'_> {
         Some(Member { id, entry, age, salary: self.amount()? })
     }
 
-    fn end(&mut self) -> Option<u64> {
+    pub fn end(&mut self) -> Option<u64> {
         self.keyed(b"end=")
     }
 
@@ -296,7 +296,7 @@ impl Rest<'_> {
     }
 
     #[inline(always)]
-    fn key(&mut self, key: &[u8]) -> Option<()> {
+    pub fn key(&mut self, key: &[u8]) -> Option<()> {
         self.0 = self.0.strip_prefix(key)?;
         Some(())
     }
@@ -314,7 +314,7 @@ impl Rest<'_> {
 
     /// 0, or 1 to 12 digits that don't begin with 0. One digit more is left for who comes next to refuse.
     #[inline(always)]
-    fn whole(&mut self) -> Option<u64> {
+    pub fn whole(&mut self) -> Option<u64> {
         let mut n = self.digit()?;
         if n == 0 {
             return Some(0);
@@ -328,7 +328,7 @@ impl Rest<'_> {
 
     /// In cents.
     #[inline(always)]
-    fn amount(&mut self) -> Option<u64> {
+    pub fn amount(&mut self) -> Option<u64> {
         let dollars = self.whole()?;
         self.key(b".")?;
         Some(100 * dollars + 10 * self.digit()? + self.digit()?)
