@@ -35,7 +35,7 @@ fn write_member_line(out: &mut [u8], at: usize, id: u64, f: Figures) -> usize
 }
 
 // How many bytes the members' lines take.
-pub fn member_lines_width(members: &[u64; 4000], worked: &[u64; 4000], count: usize) -> usize
+pub(crate) fn member_lines_width(members: &[u64; 4000], worked: &[u64; 4000], count: usize) -> usize
     requires { ⌜ count ≤ 1000 ⌝ }
     ensures { λ r. ⌜ (r ≡ length (linesIn (now (members .entry)) (now (worked .entry)) count)) × (r ≤ 133000) ⌝ }
 {
@@ -50,7 +50,7 @@ pub fn member_lines_width(members: &[u64; 4000], worked: &[u64; 4000], count: us
 }
 
 // Writes the members' lines at the start of the output.
-pub fn write_member_lines(
+pub(crate) fn write_member_lines(
     out: &mut [u8],
     members: &[u64; 4000],
     worked: &[u64; 4000],
@@ -73,7 +73,12 @@ pub fn write_member_lines(
 }
 
 // How many bytes the plan's three lines take.
-pub fn plan_lines_width(count: u64, t: Totals, unfunded: Signed, supplemental: Signed) -> usize
+pub(crate) fn plan_lines_width(
+    count: u64,
+    t: Totals,
+    unfunded: Signed,
+    supplemental: Signed,
+) -> usize
     ensures { λ r. ⌜ (r ≡ length (planLines count t (integer unfunded) (integer supplemental))) × (r ≤ 215) ⌝ }
 {
     let amounts = [t.value, t.cost, t.liability];
@@ -84,7 +89,7 @@ pub fn plan_lines_width(count: u64, t: Totals, unfunded: Signed, supplemental: S
 }
 
 // Writes the plan's three lines.
-pub fn write_plan_lines(
+pub(crate) fn write_plan_lines(
     out: &mut [u8],
     at: usize,
     count: u64,

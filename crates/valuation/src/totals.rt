@@ -24,7 +24,7 @@ pub struct Totals {
 }
 
 // Member j of the array that accepting fills.
-pub fn member_at(members: &[u64; 4000], j: usize) -> Member
+pub(crate) fn member_at(members: &[u64; 4000], j: usize) -> Member
     requires { ⌜ j < 1000 ⌝ }
     ensures { λ m. ⌜ m ≡ memberAt (now (members .entry)) j ⌝ }
 {
@@ -37,7 +37,7 @@ pub fn member_at(members: &[u64; 4000], j: usize) -> Member
 }
 
 // The figures of member j, from the array that `work` fills.
-pub fn figures_at(worked: &[u64; 4000], j: usize) -> Figures
+pub(crate) fn figures_at(worked: &[u64; 4000], j: usize) -> Figures
     requires { ⌜ j < 1000 ⌝ }
     ensures { λ f. ⌜ f ≡ storedFigures (now (worked .entry)) j ⌝ }
 {
@@ -70,7 +70,7 @@ fn figures_of(p: Plan, rows: [[u32; 4]; 106], m: Member) -> Figures
 
 // Works each member's figures into the array, and sums them. Past the last member the array is left open. It is written
 // whole first, so that its length is known to the proof.
-pub fn work(
+pub(crate) fn work(
     p: Plan,
     rows: [[u32; 4]; 106],
     members: &[u64; 4000],
@@ -102,7 +102,7 @@ pub fn work(
 }
 
 // Total L less assets.
-pub fn unfunded_of(liability: u64, assets: u64) -> Signed
+pub(crate) fn unfunded_of(liability: u64, assets: u64) -> Signed
     ensures { λ z. ⌜ z ≡ signed (pos liability -ℤ pos assets) ⌝ }
 {
     if liability < assets {
@@ -119,7 +119,7 @@ pub fn unfunded_of(liability: u64, assets: u64) -> Signed
 }
 
 // The yearly payment that pays the unfunded off in so many years.
-pub fn supplemental_of(unfunded: Signed, interest: u64, years: u64) -> Signed
+pub(crate) fn supplemental_of(unfunded: Signed, interest: u64, years: u64) -> Signed
     requires { ⌜ (interest ≤ 2000) × (1 ≤ years) × (years ≤ 40) ⌝ }
     ensures { λ z. ⌜ z ≡ signed (nearestℤ (integer unfunded *ℤ pos Factors·S) (C interest years)) ⌝ }
 {
