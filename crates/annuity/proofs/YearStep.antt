@@ -37,11 +37,6 @@ step-halves n f a p d hd hp w =
       above = simp sorted (omega (arith, simp sorted at less, simp sorted at (mul-le-mul-left (a .lower) (nearest-above (f * p) d hd)), simp sorted at (mul-le-mul-left p (w .above))));
     }
 
--- an amount added to both sides adds nothing
-pub add-halves : (m : ℕ) {n f : ℕ} {a : Ratio} → Halves n f a → Halves n (m + f) (whole m ⊕ a)
-unfolding whole _over_ _⊕_
-add-halves m w = omega arith
-
 -- it keeps an error at one part in 2 s, where an amount of s or more is added to the step's result
 pub step-part : (s f : ℕ) (a : Ratio) (p d m : ℕ) → 0 < d → s ≤ m → Part s f a → Part s (m + nearest (f * p) d) (whole m ⊕ a ⊗ p over d)
 unfolding whole _over_ _⊕_ _⊗_

@@ -9,9 +9,9 @@ use Rattle.plan.specs.Acceptance.{loneRefusal, AcceptedMember}
 use Rattle.plan.proofs.Facts.{member-facts}
 use Rattle.costs.specs.declared.Figures.{Figures}
 use Rattle.costs.specs.declared.Valuation.the-variants.{Valued, Refused}
-use Rattle.costs.specs.Valuation.{methodOf, caseOf, figuresAt, figures, valuation, Limited, Demand-3-Forms, Demand-3-Limits}
+use Rattle.costs.specs.Valuation.{methodOf, caseOf, figuresAt, figures, valuation, Limited, Demand-3-Forms, Demand-3-Limits, Demand-3-Sharp-Limits}
 use Rattle.costs.proofs.EqualForms.{equal-forms}
-use Rattle.costs.proofs.Limits.{limits}
+use Rattle.costs.proofs.Limits.{limits, sharp-limits}
 use Rattle.costs.proofs.Needs.{sound}
 
 module _ (p : Plan) (rows : List (List ℕ)) (m : Member) where
@@ -37,3 +37,6 @@ demand-3-forms p rows before m ok = equal-forms (caseOf p rows m) (sound p rows 
 
 pub demand-3-limits : Demand-3-Limits
 demand-3-limits p rows before m ok = limits (caseOf p rows m) (sound p rows m (member-facts p rows before m (ok .plan) (ok .member)))
+
+pub demand-3-sharp-limits : Demand-3-Sharp-Limits
+demand-3-sharp-limits p rows before m ok = sharp-limits (caseOf p rows m) (sound p rows m (member-facts p rows before m (ok .plan) (ok .member)))

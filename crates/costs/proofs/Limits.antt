@@ -2,13 +2,13 @@
 use mathlib.Core.Path.{_≡_}
 use mathlib.Core.Bool.{Bool, true, false, cond}
 use Prim.Native.Nat.{ℕ, zero, suc, _+_, _-_, _*_, _≤_, _<_}
-use native.Mathlib.Nat.{le-refl, zero-add, add-zero, mul-comm, mul-one, mul-assoc, mul-pos, mul-le-mul-left}
+use native.Mathlib.Nat.{le-refl, zero-add, add-zero, mul-comm, mul-one, mul-assoc, mul-pos, mul-le-mul-left, mul-le-mul-right}
 use native.Mathlib.Omega.{arith}
 use lib.Dec.{T as Yes, ltb, ltb→lt}
 use Rattle.rounding.specs.Nearest.{nearest}
 use Rattle.fractions.specs.Ratio.{Ratio, _over_, whole, _⊕_, _⊗_, inverse, _⊘_, Proper, _≼_}
-use Rattle.fractions.proofs.RatioLaws.{⊗-comm, ⊗-one, whole-proper, over-proper, whole-positive, inverse-proper}
-use Rattle.fractions.proofs.OrderLaws.{_∙≼_, ≼-refl, ⊗-mono, whole-≼, over-≼}
+use Rattle.fractions.proofs.RatioLaws.{⊗-comm, ⊗-one, whole-proper, over-proper, whole-positive, inverse-proper, proper}
+use Rattle.fractions.proofs.OrderLaws.{_∙≼_, ≼-refl, ⊕-mono, ⊗-mono, whole-≼, over-≼}
 use Rattle.fractions.proofs.ApartLaws.{apart-more}
 use Rattle.annuity.specs.Factors.{S, G, G*, T, T*, Z, Z*}
 use Rattle.annuity.specs.Accuracy.{Within}
@@ -20,22 +20,23 @@ use Rattle.costs.specs.Case.{Case, Sound}
 use Rattle.plan.specs.Weights.{summed}
 use Rattle.plan.proofs.WeightLaws.{summed-split}
 use Rattle.costs.specs.Costs.{r, W, M, PV, PV*, cost, cost*, N, N*, L, L*}
-use Rattle.costs.specs.Demand3.{N-limit, L-limit, Sharp-Limits, N-most, Limits}
+use Rattle.costs.specs.Demand3.{V-limit, N-limit, L-limit, Sharp-Limits, N-most, Limits}
 use Rattle.costs.proofs.Quotients.{close-refl, Divisor, Share, exact, exact-part, over-divisor, near-part, Factor, strays, product}
 
 -- ---- the limits in numbers
--- how far G (billionths) and PV (cents) stray, and how large they are
+-- how far G strays, in billionths, and how large it is
 abbrev G-strays : Ratio
 G-strays = 53 over 1
 
 abbrev G-top : Ratio
 G-top = whole (71 * S)
 
-abbrev PV-strays : Ratio
-PV-strays = 58 over 10
+-- the same of PV, in cents, where the benefit is b
+abbrev PV-strays : ℕ → Ratio
+PV-strays b = 1 over 2 ⊕ whole 53 ⊗ b over S
 
-abbrev PV-top : Ratio
-PV-top = whole 7100000000
+abbrev PV-top : ℕ → Ratio
+PV-top b = whole (71 * b)
 
 -- T and Z stray by this part of themselves
 abbrev T-part : Ratio
@@ -44,26 +45,38 @@ T-part = 1 over (2 * S)
 abbrev Z-part : Ratio
 Z-part = 1 over (2 * (1000 * S))
 
-tenth : (b t : ℕ) → b ≤ 100000000 → S ≤ t → b over t ≼ 1 over 10
-tenth b t hb ht = over-≼ b 1 (omega arith) (omega arith) (omega arith)
+-- G is shared as a benefit to S or to T; PV as the part earned to the whole, 1 at most
+record Numbers (b : ℕ) : Type 0 where
+  PV-size : whole b ⊗ G-top ⊘ whole S ≼ PV-top b
+  over-S : strays G-strays G-top (b over S) (whole 0) ≼ PV-strays b
+  over-T : strays G-strays G-top (b over S) (b over S ⊗ T-part) ≼ 1 over 2 ⊕ 885 over 10 ⊗ b over S
+  exact-share : strays (PV-strays b) (PV-top b) (whole 1) (whole 0) ≼ whole 1 ⊕ whole 53 ⊗ b over S
+  T-share : strays (PV-strays b) (PV-top b) (whole 1) (T-part ⊕ T-part) ≼ whole 1 ⊕ whole 124 ⊗ b over S
+  Z-share-once : strays (PV-strays b) (PV-top b) (whole 1) (1 over (1000 * S)) ≼ whole 1 ⊕ 53071 over 1000 ⊗ b over S
 
--- G is shared as a benefit to S or to T, a tenth at most; PV as the part earned to the whole, 1 at most
-record Numbers : Type 0 where
-  PV-size : whole 100000000 ⊗ G-top ⊘ whole S ≼ PV-top
-  over-S : strays G-strays G-top (1 over 10) (whole 0) ≼ PV-strays
-  over-T : strays G-strays G-top (1 over 10) (1 over 10 ⊗ T-part) ≼ 935 over 100
-  exact-share : strays PV-strays PV-top (whole 1) (whole 0) ≼ 63 over 10
-  T-share : strays PV-strays PV-top (whole 1) (T-part ⊕ T-part) ≼ 134 over 10
-  Z-share : strays PV-strays PV-top (whole 1) (Z-part ⊕ Z-part) ≼ 631 over 100
-
-numbers : Numbers
+numbers : (b : ℕ) → Numbers b
 unfolding _over_ whole _⊕_ _⊗_ inverse
-numbers = omega arith
+numbers b = omega arith
+
+-- the two parts of Z as one: with the sum of both in it the numbers above are too long for `omega`
+Z-twice : Z-part ⊕ Z-part ≼ 1 over (1000 * S)
+unfolding _over_ _⊕_
+Z-twice = omega arith
+
+Z-share : (b : ℕ) → strays (PV-strays b) (PV-top b) (whole 1) (Z-part ⊕ Z-part) ≼ whole 1 ⊕ 53071 over 1000 ⊗ b over S
+Z-share b =
+    let half : Proper (1 over 2) = over-proper 1 (omega arith) in
+    let share : Proper (b over S) = over-proper b (omega arith) in
+    ⊕-mono (≼-refl half) (⊕-mono (≼-refl (search proper)) (⊗-mono Z-twice (≼-refl (whole-proper (71 * b)))))
+    ∙≼ numbers b .Z-share-once
+
+share-of : (a b t : ℕ) → a ≤ b → S ≤ t → a over t ≼ b over S
+share-of a b t ha ht = over-≼ a b (omega arith) (omega arith) (omega (arith, mul-le-mul-left b ht, mul-le-mul-right S ha))
 
 -- the half counts W(k) / W(y) times too, since that is 1 at least
-weighted : (v w : ℕ) → 0 < v → v ≤ w → strays PV-strays PV-top (w over v) (w over v ⊗ Z-part) ≼ 631 over 100 ⊗ w over v
+weighted : (b v w : ℕ) → 0 < v → v ≤ w → strays (PV-strays b) (PV-top b) (w over v) (w over v ⊗ Z-part) ≼ (whole 1 ⊕ 530355 over 10000 ⊗ b over S) ⊗ w over v
 unfolding _over_ whole _⊕_ _⊗_
-weighted v w hv h = omega (arith, mul-pos hv hv, mul-le-mul-left (v * v) h)
+weighted b v w hv h = omega (arith, mul-pos hv hv, mul-le-mul-left (v * v) h)
 
 -- ---- what never falls, and sums of weights
 climb : (F : ℕ → ℕ) (k n : ℕ) → ((j : ℕ) → k ≤ j → j < k + n → F j ≤ F (j + 1)) → F k ≤ F (k + n)
@@ -77,10 +90,13 @@ module _ (c : Case) (sound : Sound c) where
   open Sound sound using (fair, enters, weighty, climbs, capped, rises)
 
   -- no benefit is above the last, and no weight below the first
-  pub B-most : (k : ℕ) → y ≤ k → k ≤ r c → B k ≤ 100000000
-  B-most k yk kr =
+  B-last : (k : ℕ) → y ≤ k → k ≤ r c → B k ≤ B (r c)
+  B-last k yk kr =
       let end : k + (r c - k) ≡ r c = omega arith in
-      omega (arith, capped, rw end at (climb B k (r c - k) (λ j from to. rises j (omega arith) (omega arith))))
+      rw end at (climb B k (r c - k) (λ j from to. rises j (omega arith) (omega arith)))
+
+  pub B-most : (k : ℕ) → y ≤ k → k ≤ r c → B k ≤ 100000000
+  B-most k yk kr = omega (arith, capped, B-last k yk kr)
 
   pub W-least : (k : ℕ) → y ≤ k → k < r c → W c y ≤ W c k
   W-least k yk kr =
@@ -122,22 +138,24 @@ module _ (c : Case) (sound : Sound c) where
   benefit {b} k yk kr share le =
       rw (mul-comm b (G basis k), ⊗-comm (whole b) (G* basis k)) (product (G-factor k yk kr) share le)
 
-  benefit-value : (b k : ℕ) → b ≤ 100000000 → y ≤ k → k ≤ r c
-      → Within PV-strays (nearest (b * G basis k) S) (whole b ⊗ G* basis k ⊘ whole S)
-  benefit-value b k hb yk kr = benefit k yk kr (exact b S (omega arith) (tenth b S hb (omega arith))) (numbers .over-S)
+  benefit-value : (b k : ℕ) → b ≤ B (r c) → y ≤ k → k ≤ r c
+      → Within (PV-strays (B (r c))) (nearest (b * G basis k) S) (whole b ⊗ G* basis k ⊘ whole S)
+  benefit-value b k hb yk kr =
+      benefit k yk kr (exact b S (omega arith) (share-of b (B (r c)) S hb (omega arith))) (numbers (B (r c)) .over-S)
 
   -- ---- PV
-  pub PV-close : (k : ℕ) → y ≤ k → k ≤ r c → Within (58 over 10) (PV c k) (PV* c k)
-  unfolding PV PV*
-  PV-close k = benefit-value (B (r c)) k capped
+  PV-close : (k : ℕ) → y ≤ k → k ≤ r c → Within (V-limit c) (PV c k) (PV* c k)
+  unfolding PV PV* V-limit
+  PV-close k = benefit-value (B (r c)) k (le-refl (B (r c)))
 
-  pub PV*-most : (k : ℕ) → PV* c k ≼ whole 7100000000
+  PV*-most : (k : ℕ) → PV* c k ≼ PV-top (B (r c))
   unfolding PV*
   PV*-most k =
-      ⊗-mono (⊗-mono (whole-≼ capped) (G-most k)) (≼-refl (inverse-proper (whole-positive (omega arith))))
-      ∙≼ numbers .PV-size
+      ⊗-mono (⊗-mono (whole-≼ (le-refl (B (r c)))) (G-most k)) (≼-refl (inverse-proper (whole-positive (omega arith))))
+      ∙≼ numbers (B (r c)) .PV-size
 
-  PV-factor : (k : ℕ) → y ≤ k → k ≤ r c → Factor PV-strays PV-top (PV c k) (PV* c k)
+  PV-factor : (k : ℕ) → y ≤ k → k ≤ r c → Factor (PV-strays (B (r c))) (PV-top (B (r c))) (PV c k) (PV* c k)
+  unfolding V-limit
   PV-factor k yk kr = record { near = PV-close k yk kr; most = PV*-most k }
 
   -- ---- T and Z
@@ -170,55 +188,55 @@ module _ (c : Case) (sound : Sound c) where
   cost-within : (m : Method) (k : ℕ) → y ≤ k → k < r c → Within (N-limit c m k) (cost c m k) (cost* c m k)
   unfolding cost cost* N-limit
   cost-within AB k yk kr =
-      benefit-value (B (k + 1) - B k) k (omega (arith, B-most (k + 1) (omega arith) (omega arith))) yk (omega arith)
+      benefit-value (B (k + 1) - B k) k (omega (arith, B-last (k + 1) (omega arith) (omega arith))) yk (omega arith)
   cost-within BD k yk kr =
       rw (mul-one, ⊗-one) at
-      (product (PV-factor k yk (omega arith)) (exact-part 1 (r c - y) (omega arith) (omega arith)) (numbers .exact-share))
+      (product (PV-factor k yk (omega arith)) (exact-part 1 (r c - y) (omega arith) (omega arith)) (numbers (B (r c)) .exact-share))
   cost-within BP k yk kr =
-      product (PV-factor k yk (omega arith)) (exact-part (W c k) (M c) M-above (W-most k yk kr)) (numbers .exact-share)
+      product (PV-factor k yk (omega arith)) (exact-part (W c k) (M c) M-above (W-most k yk kr)) (numbers (B (r c)) .exact-share)
   cost-within CD k yk kr =
       benefit y (le-refl y) (omega arith)
-      (over-divisor (B (r c)) T-divisor (tenth (B (r c)) (T basis y (r c)) capped (T-least basis y (r c) enters)))
-      (numbers .over-T)
+      (over-divisor (B (r c)) T-divisor (share-of (B (r c)) (B (r c)) (T basis y (r c)) (le-refl (B (r c))) (T-least basis y (r c) enters)))
+      (numbers (B (r c)) .over-T)
   cost-within CP k yk kr =
       rw mul-assoc
       (product (PV-factor y (le-refl y) (omega arith)) (over-divisor (W c k * S) Z-divisor (Z-weight k))
-      (weighted (W c y) (W c k) (omega (arith, W-some)) (W-least k yk kr)))
+      (weighted (B (r c)) (W c y) (W c k) (omega (arith, W-some)) (W-least k yk kr)))
 
-  L-within : (m : Method) (k : ℕ) → y ≤ k → k ≤ r c → Within (L-limit m) (L c m k) (L* c m k)
+  L-within : (m : Method) (k : ℕ) → y ≤ k → k ≤ r c → Within (L-limit c m) (L c m k) (L* c m k)
   unfolding L L* L-limit
-  L-within AB k yk kr = benefit-value (B k) k (B-most k yk kr) yk kr
+  L-within AB k yk kr = benefit-value (B k) k (B-last k yk kr) yk kr
   L-within BD k yk kr =
-      product (PV-factor k yk kr) (exact-part (k - y) (r c - y) (omega arith) (omega arith)) (numbers .exact-share)
+      product (PV-factor k yk kr) (exact-part (k - y) (r c - y) (omega arith) (omega arith)) (numbers (B (r c)) .exact-share)
   L-within BP k yk kr =
       product (PV-factor k yk kr) (exact-part (summed (W c) y (k - y)) (M c) M-above (omega (arith, M-split k yk kr)))
-      (numbers .exact-share)
+      (numbers (B (r c)) .exact-share)
   L-within CD k yk kr =
       product (PV-factor k yk kr)
       (near-part (T-accuracy basis fair y k) T-divisor (T-longer basis fair y k (r c) yk kr) (T*-longer basis y k (r c) yk kr))
-      (numbers .T-share)
+      (numbers (B (r c)) .T-share)
   L-within CP k yk kr =
       product (PV-factor k yk kr)
       (near-part (Z-accuracy basis fair y k (λ j from to. weighty j from (omega arith))) Z-divisor
       (Z-longer basis fair y k (r c) yk kr) (Z*-longer basis y k (r c) yk kr))
-      (numbers .Z-share)
+      (Z-share (B (r c)))
 
 -- ---- the statements
 N-limit-most : (c : Case) → Sound c → (m : Method) (k : ℕ) → N-limit c m k ≼ N-most c m k
-unfolding N-limit N-most _over_ _⊗_
-N-limit-most c sound AB k = omega arith
-N-limit-most c sound BD k = omega arith
-N-limit-most c sound BP k = omega arith
-N-limit-most c sound CD k = omega arith
-N-limit-most c sound CP k = omega (arith, W-some c sound)
+unfolding N-limit N-most _over_ whole _⊕_ _⊗_
+N-limit-most c sound AB k = omega (arith, sound .capped)
+N-limit-most c sound BD k = omega (arith, sound .capped)
+N-limit-most c sound BP k = omega (arith, sound .capped)
+N-limit-most c sound CD k = omega (arith, sound .capped)
+N-limit-most c sound CP k = omega (arith, W-some c sound, mul-le-mul-right (W c k * W c (c .y)) (sound .capped))
 
-L-limit-most : (m : Method) → L-limit m ≼ 15 over 1
-unfolding L-limit _over_
-L-limit-most AB = omega arith
-L-limit-most BD = omega arith
-L-limit-most BP = omega arith
-L-limit-most CD = omega arith
-L-limit-most CP = omega arith
+L-limit-most : (c : Case) → Sound c → (m : Method) → L-limit c m ≼ 15 over 1
+unfolding L-limit _over_ whole _⊕_ _⊗_
+L-limit-most c sound AB = omega (arith, sound .capped)
+L-limit-most c sound BD = omega (arith, sound .capped)
+L-limit-most c sound BP = omega (arith, sound .capped)
+L-limit-most c sound CD = omega (arith, sound .capped)
+L-limit-most c sound CP = omega (arith, sound .capped)
 
 -- at r both N are 0
 if-below : {l : Ratio} (t : Bool) (f : ℕ) (a : Ratio) → Proper l → (Yes t → Within l f a)
@@ -228,13 +246,16 @@ if-below false f a hl near = close-refl hl (whole-proper 0)
 
 pub sharp-limits : Sharp-Limits
 unfolding N N*
-sharp-limits c sound m k yk kr = (
-  if-below (ltb k (r c)) (cost c m k) (cost* c m k) (N-limit-most c sound m k .left)
-      (λ below. cost-within c sound m k yk (ltb→lt k (r c) below)),
-  L-within c sound m k yk kr,
-)
+sharp-limits c sound m k yk kr =
+    record {
+      value = PV-close c sound k yk kr;
+      cost =
+          if-below (ltb k (r c)) (cost c m k) (cost* c m k) (N-limit-most c sound m k .left)
+          (λ below. cost-within c sound m k yk (ltb→lt k (r c) below));
+      liability = L-within c sound m k yk kr;
+    }
 
 pub limits : Limits
 limits c sound m k yk kr =
     let sharp = sharp-limits c sound m k yk kr in
-    (apart-more (sharp .0) (N-limit-most c sound m k), apart-more (sharp .1) (L-limit-most m))
+    (apart-more (sharp .cost) (N-limit-most c sound m k), apart-more (sharp .liability) (L-limit-most c sound m))

@@ -1,19 +1,24 @@
 -- Demand 3, both parts, and roll-forward, for every sound case, each of the five methods and each age k from y through r.
 use Prim.Native.Nat.{ℕ, _+_, _*_, _≤_, _<_}
-use Rattle.fractions.specs.Ratio.{Ratio, _over_, _⊕_, _⊗_, _≈_}
+use Rattle.fractions.specs.Ratio.{Ratio, _over_, whole, _⊕_, _⊗_, _≈_}
 use Rattle.fractions.specs.Fraction.{fraction, _⊖_, _≐_}
-use Rattle.annuity.specs.Factors.{step*}
+use Rattle.annuity.specs.Factors.{S, step*}
 use Rattle.annuity.specs.Accuracy.{Within}
 use Rattle.plan.specs.declared.Method.{Method}
 use Rattle.plan.specs.declared.Method.the-variants.{AB, BD, BP, CD, CP}
 use Rattle.costs.specs.Case.{Case, Sound}
-use Rattle.costs.specs.Costs.{r, W, PV*, N, N*, L, L*, future}
+use Rattle.costs.specs.Costs.{r, W, PV, PV*, N, N*, L, L*, future}
 
--- the part already earned is the benefits less the future normal costs
+-- what holds of every sound case, each method and each age k from y through r
+abbrev pub Of-Every-Sound : (Case → Method → ℕ → Type 0) → Type 0
+Of-Every-Sound P = (c : Case) → Sound c → (m : Method) (k : ℕ) → c .y ≤ k → k ≤ r c → P c m k
+
+-- the part already earned is the benefits less the future normal costs: equal fractions, by cross products
+abbrev pub FormsAgree : Case → Method → ℕ → Type 0
+FormsAgree c m k = fraction (L* c m k) ≐ fraction (PV* c k) ⊖ fraction (future c m k)
+
 abbrev pub Equal-Forms : Type 0
-Equal-Forms =
-    (c : Case) → Sound c → (m : Method) (k : ℕ) → c .y ≤ k → k ≤ r c
-    → fraction (L* c m k) ≐ fraction (PV* c k) ⊖ fraction (future c m k)
+Equal-Forms = Of-Every-Sound FormsAgree
 
 -- a year forward: the liability and the year's normal cost are the year step of the next year's liability
 abbrev pub Roll-Forward : Type 0
@@ -21,27 +26,41 @@ Roll-Forward =
     (c : Case) → Sound c → (m : Method) (k : ℕ) → c .y ≤ k → k < r c
     → L* c m k ⊕ N* c m k ≈ step* (c .basis) k (L* c m (k + 1))
 
--- how far N at age k may stray, in cents; for CP times W(k) / W(y)
-unfoldable pub N-limit : Case → Method → ℕ → Ratio
-N-limit c AB k = 58 over 10
-N-limit c BD k = 63 over 10
-N-limit c BP k = 63 over 10
-N-limit c CD k = 935 over 100
-N-limit c CP k = 631 over 100 ⊗ W c k over W c (c .y)
+-- ---- limits by the benefit, in cents
+-- b, the benefit at retirement in cents over S: 0.1 at most
+abbrev pub b : Case → Ratio
+b c = c .B (r c) over S
 
--- and L
-unfoldable pub L-limit : Method → Ratio
-L-limit AB = 58 over 10
-L-limit BD = 63 over 10
-L-limit BP = 63 over 10
-L-limit CD = 134 over 10
-L-limit CP = 631 over 100
+-- how far V may stray: 0.5 + 53 b
+unfoldable pub V-limit : Case → Ratio
+V-limit c = 1 over 2 ⊕ whole 53 ⊗ b c
+
+-- and N at age k: AB 0.5 + 53 b; BD, BP 1 + 53 b; CD 0.5 + 88.5 b; CP (1 + 53.0355 b) × W(k) / W(y)
+unfoldable pub N-limit : Case → Method → ℕ → Ratio
+N-limit c AB k = 1 over 2 ⊕ whole 53 ⊗ b c
+N-limit c BD k = whole 1 ⊕ whole 53 ⊗ b c
+N-limit c BP k = whole 1 ⊕ whole 53 ⊗ b c
+N-limit c CD k = 1 over 2 ⊕ 885 over 10 ⊗ b c
+N-limit c CP k = (whole 1 ⊕ 530355 over 10000 ⊗ b c) ⊗ W c k over W c (c .y)
+
+-- and L: AB 0.5 + 53 b; BD, BP 1 + 53 b; CD 1 + 124 b; CP 1 + 53.071 b
+unfoldable pub L-limit : Case → Method → Ratio
+L-limit c AB = 1 over 2 ⊕ whole 53 ⊗ b c
+L-limit c BD = whole 1 ⊕ whole 53 ⊗ b c
+L-limit c BP = whole 1 ⊕ whole 53 ⊗ b c
+L-limit c CD = whole 1 ⊕ whole 124 ⊗ b c
+L-limit c CP = whole 1 ⊕ 53071 over 1000 ⊗ b c
+
+-- V, N and L at age k lie within these limits of their exact fractions
+pub record WithinLimits (c : Case) (m : Method) (k : ℕ) : Type 0 where
+  pub value : Within (V-limit c) (PV c k) (PV* c k)
+  pub cost : Within (N-limit c m k) (N c m k) (N* c m k)
+  pub liability : Within (L-limit c m) (L c m k) (L* c m k)
 
 abbrev pub Sharp-Limits : Type 0
-Sharp-Limits =
-    (c : Case) → Sound c → (m : Method) (k : ℕ) → c .y ≤ k → k ≤ r c
-    → Within (N-limit c m k) (N c m k) (N* c m k) × Within (L-limit m) (L c m k) (L* c m k)
+Sharp-Limits = Of-Every-Sound WithinLimits
 
+-- ---- the limit that is demanded, which follows
 -- the limit of document 01: "by 15 cents at most; for the N of CP by 15 × W(x) / W(y) cents at most, this limit itself not rounded"
 unfoldable pub N-most : Case → Method → ℕ → Ratio
 N-most c AB k = 15 over 1
@@ -50,7 +69,8 @@ N-most c BP k = 15 over 1
 N-most c CD k = 15 over 1
 N-most c CP k = (15 * W c k) over W c (c .y)
 
+abbrev pub WithinDemand : Case → Method → ℕ → Type 0
+WithinDemand c m k = Within (N-most c m k) (N c m k) (N* c m k) × Within (15 over 1) (L c m k) (L* c m k)
+
 abbrev pub Limits : Type 0
-Limits =
-    (c : Case) → Sound c → (m : Method) (k : ℕ) → c .y ≤ k → k ≤ r c
-    → Within (N-most c m k) (N c m k) (N* c m k) × Within (15 over 1) (L c m k) (L* c m k)
+Limits = Of-Every-Sound WithinDemand

@@ -2,12 +2,12 @@
 use mathlib.Core.Path.{_≡_, refl}
 use mathlib.Core.Bool.{true}
 use mathlib.Core.List.{List, [], _∷_, _++_}
-use Prim.Native.Nat.{ℕ}
+use Prim.Native.Nat.{ℕ, _*_}
 use Rattle.rounding.specs.Nearest.{nearest}
 use Rattle.fractions.specs.Ratio.{_over_, whole, _⊕_, _⊗_, inverse}
 use Rattle.annuity.specs.Recursion.{carried}
 use Rattle.annuity.specs.Basis.{stays, staying}
-use Rattle.annuity.specs.Factors.{step, A, pension, G, T, Z}
+use Rattle.annuity.specs.Factors.{S, step, A, pension, G, T, Z}
 use Rattle.annuity.specs.Figures.{short, Figure, _is_, all-are, factors}
 use Rattle.plan.specs.declared.Plan.{Plan}
 use Rattle.plan.specs.declared.Member.{Member}
@@ -16,7 +16,7 @@ use Rattle.plan.specs.Weights.{summed}
 use Rattle.plan.specs.Benefit.{formulaOf, pay, pays, exactBenefit, B}
 use Rattle.plan.specs.Acceptance.{loneRefusal, planRefusal, headRules, rowsRefusal, rowRules, memberRefusal, fieldRules, benefitRules, rises}
 use Rattle.costs.specs.Case.{Case}
-use Rattle.costs.specs.Costs.{PV, cost, N, L}
+use Rattle.costs.specs.Costs.{W, PV, cost, N, L}
 use Rattle.costs.specs.Valuation.{caseOf}
 
 -- "With interest=1000, retire=65, formula=flat, unit=10000, average=0, method=CD, assets=20.00, years=2, the short table, member=7,63,64,0.00"
@@ -52,6 +52,7 @@ figures =
     ∷ (N short-case CP 64 is 9091)
     ∷ (L short-case CP 64 is 9091)
     ∷ (N short-case CP 63 is 8265)
+    ∷ (10 * (PV short-case 63 * W short-case 63 * S) is 82645 * Z (short-case .basis) 63 65)
     ∷ (PV short-case 63 is 16529)
     ∷ (L short-case AB 63 is 0)
     ∷ (L short-case BD 63 is 0)

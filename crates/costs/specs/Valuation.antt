@@ -5,7 +5,6 @@ use mathlib.Core.List.{List}
 use Prim.Native.Nat.{ℕ, _≤_}
 use lib.Dec.{eqb}
 use Rattle.fractions.specs.Ratio.{_over_}
-use Rattle.fractions.specs.Fraction.{fraction, _⊖_, _≐_}
 use Rattle.annuity.specs.Basis.{Basis, basis}
 use Rattle.annuity.specs.Factors.{G}
 use Rattle.annuity.specs.Filled.{Filled}
@@ -20,8 +19,8 @@ use Rattle.costs.specs.declared.Figures.{Figures}
 use Rattle.costs.specs.declared.Valuation.{Valuation}
 use Rattle.costs.specs.declared.Valuation.the-variants.{Valued, Refused}
 use Rattle.costs.specs.Case.{Case}
-use Rattle.costs.specs.Costs.{PV, PV*, N, N*, L, L*, future}
-use Rattle.costs.specs.Demand3.{N-most}
+use Rattle.costs.specs.Costs.{PV, N, N*, L, L*}
+use Rattle.costs.specs.Demand3.{N-most, FormsAgree, WithinDemand, WithinLimits}
 
 -- a method's code: 1 AB, 2 BD, 3 BP, 4 CD, 5 CP
 unfoldable pub methodOf : ℕ → Method
@@ -73,12 +72,14 @@ Of-Every-Accepted P =
     (p : Plan) (rows : List (List ℕ)) (before : ℕ) (m : Member) → Accepted p rows before m
     → (method : Method) (k : ℕ) → m .entry ≤ k → k ≤ p .retire → P (caseOf p rows m) method k
 
--- "the part already earned .. and the benefits less the future normal costs .. are equal at each such k"
+-- the two forms of the liability are equal fractions
 abbrev pub Demand-3-Forms : Type 0
-Demand-3-Forms = Of-Every-Accepted (λ c method k. fraction (L* c method k) ≐ fraction (PV* c k) ⊖ fraction (future c method k))
+Demand-3-Forms = Of-Every-Accepted FormsAgree
 
--- "Each differs from its exact fraction, either way, by 15 cents at most; for the N of CP by 15 × W(x) / W(y) cents at most"
+-- N and L lie within 15 cents of their exact fractions, N of CP within 15 × W(k) / W(y)
 abbrev pub Demand-3-Limits : Type 0
-Demand-3-Limits =
-    Of-Every-Accepted
-    (λ c method k. Within (N-most c method k) (N c method k) (N* c method k) × Within (15 over 1) (L c method k) (L* c method k))
+Demand-3-Limits = Of-Every-Accepted WithinDemand
+
+-- and V, N and L within the limits by the benefit, which are sharper
+abbrev pub Demand-3-Sharp-Limits : Type 0
+Demand-3-Sharp-Limits = Of-Every-Accepted WithinLimits

@@ -1,11 +1,12 @@
 -- The laws of `Apart`: two fractions that differ, either way, by a limit at most.
+use mathlib.Core.Path.{_≡_}
 use Prim.Native.Nat.{ℕ, _+_, _*_, _<_}
 use native.Mathlib.Omega.{arith}
 use native.Mathlib.Nat.{mul-pos, lt-of-mul-lt-mul-left, mul-add, add-mul, mul-assoc, mul-comm, mul-left-comm}
 use Rattle.fractions.specs.Ratio.{Ratio, _over_, whole, _⊕_, _⊗_, Proper, _≈_, _≼_}
 use Rattle.fractions.specs.Fraction.{Fraction, fraction, _⊖_, _⊙_, opposite, size, _≐_, Apart}
-use Rattle.fractions.proofs.RatioLaws.{⊕-zero, zero-⊕, whole-proper, ⊕-proper, ⊗-proper}
-use Rattle.fractions.proofs.OrderLaws.{_∙≼_}
+use Rattle.fractions.proofs.RatioLaws.{⊕-zero, zero-⊕, AC-⊕, whole-proper, ⊕-proper, ⊗-proper}
+use Rattle.fractions.proofs.OrderLaws.{_∙≼_, ⊕-mono}
 use Rattle.fractions.proofs.Difference.{Difference, pos-part, neg-part, of-itself, of-pos, of-neg, of-times, Near, size-≤, ≤-size, near-times, near-cancel}
 use Rattle.fractions.proofs.FractionLaws.{≐-of, ≐-sym, cross-sums, ⊖-upper}
 
@@ -91,3 +92,11 @@ apart-below a b h =
 
 pub apart-above : (a b : Ratio) {l : Ratio} → Apart l (fraction a) (fraction b) → b ≼ a ⊕ l
 apart-above a b h = apart-below b a (apart-sym h)
+
+-- the limits of two parts of a sum add up
+pub apart-⊕ : (a b c d : Ratio) {l m : Ratio} → Apart l (fraction a) (fraction b) → Apart m (fraction c) (fraction d)
+    → Apart (l ⊕ m) (fraction (a ⊕ c)) (fraction (b ⊕ d))
+apart-⊕ a b c d {l} {m} g h =
+    let sorted : (x y : Ratio) → x ⊕ l ⊕ (y ⊕ m) ≡ x ⊕ y ⊕ (l ⊕ m) = λ x y. simp AC-⊕ in
+    apart-of (rw (sorted b d) at (⊕-mono (apart-below a b g) (apart-below c d h)))
+    (rw (sorted a c) at (⊕-mono (apart-above a b g) (apart-above c d h)))

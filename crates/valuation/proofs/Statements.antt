@@ -8,7 +8,9 @@ use native.Mathlib.Omega.{arith}
 use lib.Dec.{leb}
 use lib.ListN.{length, getD}
 use Rattle.plan.proofs.Facts.{plan-facts, member-facts}
-use Rattle.costs.proofs.Answers.{valued, limited}
+use Rattle.costs.specs.Demand3.{WithinLimits}
+use Rattle.costs.specs.Valuation.{methodOf, caseOf, figuresAt, figures}
+use Rattle.costs.proofs.Answers.{valued, limited, demand-3-forms, demand-3-sharp-limits}
 use Rattle.casefile.specs.Split.{uptoOf, linesPast}
 use Rattle.casefile.specs.Outcome.{Outcome, values, refusal, andThen}
 use Rattle.casefile.specs.Case.{Case, nobody, acceptingOf, idBefore}
@@ -17,11 +19,11 @@ use Rattle.casefile.proofs.Accepted.{accepted-case}
 use Rattle.valuation.specs.Totals.{total, unfunded, supplemental}
 use Rattle.valuation.specs.Lines.{memberLine, planLines, printed}
 use Rattle.valuation.specs.Answers.{fitting, valuedOf}
-use Rattle.valuation.specs.Statements.{lineOf, Every-Member, Members-Are-Lines, Plan-Lines, Independence, Totals-Are-Sums, supplemental*, Supplemental-Accuracy}
+use Rattle.valuation.specs.Statements.{lineOf, Every-Member, Members-Are-Lines, Plan-Lines, Independence, Totals-Are-Sums, Totals-Accuracy, supplemental*, Supplemental-Accuracy}
 use Rattle.valuation.proofs.LineEnds.{member-is-line, member-text, members-done}
 use Rattle.valuation.proofs.FileLines.{past-both, Agree, plan-same, file-lined, member-same}
 use Rattle.valuation.proofs.LoneMember.{accepted-alone}
-use Rattle.valuation.proofs.TotalLaws.{total-one, total-both}
+use Rattle.valuation.proofs.TotalLaws.{total-one, total-both, sums-close}
 use Rattle.valuation.proofs.SupplementalLaws.{payment-close}
 
 -- ---- the lines of a file
@@ -52,6 +54,15 @@ module _ (s : List ℕ) (room : ℕ) (c : Case) {out : List ℕ} (accepted : acc
       let past : 1 + j - 1 ≡ j = omega arith in
       rw (past, printed-of s room c accepted fits) (member-text (c .plan) (c .rows) (c .members) _ j there)
 
+-- each member's figures lie within its limits
+member-close : (s : List ℕ) (c : Case) → acceptingOf s ≡ values c → (j : ℕ) → j < length (c .members) → WithinLimits (caseOf (c .plan) (c .rows) (getD (c .members) j nobody)) (methodOf (c .plan .method)) (getD (c .members) j nobody .age)
+member-close s c accepted j there =
+    let m = getD (c .members) j nobody in
+    let rules = accepted-case s c accepted in
+    let kept = rules .member j there in
+    let facts = member-facts (c .plan) (c .rows) (idBefore (c .members) j) m (rules .plan) kept in
+    demand-3-sharp-limits (c .plan) (c .rows) (idBefore (c .members) j) m (record { plan = rules .plan; member = kept }) (methodOf (c .plan .method)) (m .age) (omega (arith, facts)) (omega (arith, facts))
+
 pub every-member : Every-Member
 unfolding memberLine
 every-member s out room c accepted fits j there =
@@ -63,6 +74,8 @@ every-member s out room c accepted fits j there =
       shown = ap (λ (text : List ℕ). text ++ (10 ∷ [])) (own-text s room c accepted fits j there) ∙ sym (member-is-line (c .plan) (c .rows) m .is);
       alike = sym (valued (c .plan) (c .rows) m (accepted-alone (c .plan) (c .rows) before m (rules .plan) kept) refl);
       limited = limited (c .plan) (c .rows) m (member-facts (c .plan) (c .rows) before m (rules .plan) kept) refl;
+      close = member-close s c accepted j there;
+      forms = demand-3-forms (c .plan) (c .rows) before m (record { plan = rules .plan; member = kept });
     }
 
 pub members-are-lines : Members-Are-Lines
@@ -109,6 +122,19 @@ independence s s' out out' room room' j j' fits fits' agree =
 pub totals-are-sums : Totals-Are-Sums
 unfolding total
 totals-are-sums p rows figure = record { none = refl; one = total-one p rows figure; both = total-both p rows figure }
+
+pub totals-accuracy : Totals-Accuracy
+unfolding figures figuresAt
+totals-accuracy s c accepted =
+    let p = c .plan in
+    let rows = c .rows in
+    let members = c .members in
+    let close = member-close s c accepted in
+    record {
+      value = sums-close p rows (λ f. f .value) _ _ members (λ j h. close j h .value);
+      cost = sums-close p rows (λ f. f .cost) _ _ members (λ j h. close j h .cost);
+      liability = sums-close p rows (λ f. f .liability) _ _ members (λ j h. close j h .liability);
+    }
 
 -- ---- the supplemental cost
 pub supplemental-accuracy : Supplemental-Accuracy

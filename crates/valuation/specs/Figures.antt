@@ -2,13 +2,14 @@
 use mathlib.Core.Path.{_≡_, refl}
 use mathlib.Core.Bool.{true}
 use mathlib.Core.List.{List, [], _∷_, _++_}
-use lib.IntN.{ℤ, pos, negℤ, natAbs, _+ℤ_, _*ℤ_}
+use lib.IntN.{pos, natAbs, _+ℤ_}
 use Rattle.rounding.specs.Nearest.{nearest, nearestℤ}
 use Rattle.fractions.specs.Ratio.{_over_, whole, _⊕_, _⊗_, inverse}
 use Rattle.annuity.specs.Recursion.{carried}
 use Rattle.annuity.specs.Basis.{stays, staying}
-use Rattle.annuity.specs.Factors.{S, step, A, pension, G, T, Z, C}
+use Rattle.annuity.specs.Factors.{step, A, pension, G, T, Z, C}
 use Rattle.annuity.specs.Figures.{short, Figure, _is_, all-are, factors}
+use Rattle.plan.specs.declared.Plan.{Plan}
 use Rattle.plan.specs.Weights.{summed}
 use Rattle.plan.specs.Benefit.{formulaOf, pay, pays, exactBenefit, B}
 use Rattle.plan.specs.Acceptance.{loneRefusal, planRefusal, headRules, rowsRefusal, rowRules, memberRefusal, fieldRules, benefitRules, rises}
@@ -21,16 +22,22 @@ use Rattle.printing.specs.Lines.{fields, amountsLine, signedLine}
 use Rattle.valuation.specs.Totals.{total, unfunded, supplemental}
 use Rattle.valuation.specs.Lines.{figuresLine, totalLine, planLines, memberLine, memberLines, printed}
 
--- "P unfunded −100.00, years 2: −52.38."
-abbrev payment : ℤ
-payment = nearestℤ (negℤ (pos 10000) *ℤ pos S) (C 1000 2)
+-- "P unfunded −100.00, years 2: −52.38.": the short plan with no member and assets of 100.00
+abbrev over-plan : Plan
+over-plan =
+    record { interest = 1000; retire = 65; formula = 1; unit = 10000; average = 0; method = 4; assets = 10000; years = 2 }
 
 -- a figure below 0: with its size added it is 0
 unfoldable pub proved-set : List Figure
-proved-set = member-figures ++ (natAbs (payment +ℤ pos 5238) is 0) ∷ []
+proved-set =
+    member-figures
+    ++ (natAbs (unfunded over-plan short [] +ℤ pos 10000) is 0)
+    ∷ (natAbs (supplemental over-plan short [] +ℤ pos 5238) is 0)
+    ∷ (planRefusal over-plan short is 0)
+    ∷ []
 
 pub proved-set-stands : all-are proved-set ≡ true
-unfolding proved-set member-figures factors short stays staying nearest nearestℤ carried step A pension G T Z C _over_ whole _⊕_ _⊗_ inverse summed formulaOf pay pays exactBenefit B PV cost N L loneRefusal planRefusal headRules rowsRefusal rowRules memberRefusal fieldRules benefitRules rises
+unfolding proved-set total unfunded supplemental member-figures factors short stays staying nearest nearestℤ carried step A pension G T Z C _over_ whole _⊕_ _⊗_ inverse summed formulaOf pay pays exactBenefit B PV cost N L loneRefusal planRefusal headRules rowsRefusal rowRules memberRefusal fieldRules benefitRules rises
 proved-set-stands = refl
 
 -- the short case, as it is printed

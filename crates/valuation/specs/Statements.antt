@@ -8,12 +8,16 @@ use lib.IntN.{natAbs}
 use Rattle.fractions.specs.Ratio.{_over_, whole, _⊕_, _⊘_}
 use Rattle.fractions.specs.Fraction.{Fraction, integer, _⊙_, Apart}
 use Rattle.annuity.specs.Factors.{S, C*}
+use Rattle.annuity.specs.Accuracy.{Within}
 use Rattle.plan.specs.declared.Plan.{Plan}
 use Rattle.plan.specs.declared.Member.{Member}
+use Rattle.plan.specs.declared.Method.{Method}
 use Rattle.plan.specs.Acceptance.{planRefusal}
 use Rattle.costs.specs.declared.Figures.{Figures}
 use Rattle.costs.specs.declared.Valuation.the-variants.{Valued}
-use Rattle.costs.specs.Valuation.{figures, valuation, Limited}
+use Rattle.costs.specs.Costs.{PV*, N*, L*}
+use Rattle.costs.specs.Demand3.{FormsAgree, V-limit, N-limit, L-limit, WithinLimits}
+use Rattle.costs.specs.Valuation.{methodOf, caseOf, figures, valuation, Limited}
 use Rattle.casefile.specs.declared.members.Tail.the-variants.{OfMember, OfEnd}
 use Rattle.casefile.specs.Text.{bytes}
 use Rattle.casefile.specs.Split.{uptoOf, startsOf, linesPast}
@@ -24,7 +28,7 @@ use Rattle.casefile.specs.declared.numbers.Number.the-variants.{Value}
 use Rattle.casefile.specs.Numbers.{wholeOf, amountOf}
 use Rattle.printing.specs.Amounts.{amount, whole as wholeNumber}
 use Rattle.printing.specs.Lines.{signedLine}
-use Rattle.valuation.specs.Totals.{total, totals, unfunded, supplemental}
+use Rattle.valuation.specs.Totals.{total, total*, totals, unfunded, supplemental}
 use Rattle.valuation.specs.Lines.{figuresLine, totalLine}
 use Rattle.valuation.specs.Answers.{valuedOf}
 
@@ -41,6 +45,10 @@ pub record MemberPrinted (c : Case) (m : Member) (line : List ℕ) : Type 0 wher
   pub alike : valuation (c .plan) (c .rows) m ≡ Valued (figures (c .plan) (c .rows) m)
   -- "Each differs from its exact fraction, either way, by 15 cents at most; for the N of CP by 15 × W(x) / W(y) cents at most"
   pub limited : Limited (c .plan) (c .rows) m (Valued (figures (c .plan) (c .rows) m))
+  -- the limits by the benefit, which are sharper, and V's
+  pub close : WithinLimits (caseOf (c .plan) (c .rows) m) (methodOf (c .plan .method)) (m .age)
+  -- the two forms of the liability are equal fractions, at each age of the member and by each method
+  pub forms : (method : Method) (k : ℕ) → m .entry ≤ k → k ≤ c .plan .retire → FormsAgree (caseOf (c .plan) (c .rows) m) method k
 
 -- of every member, in its place: "the member lines, total, unfunded, supplemental"
 abbrev pub Every-Member : Type 0
@@ -94,6 +102,21 @@ pub record Sums (p : Plan) (rows : List (List ℕ)) (figure : Figures → ℕ) :
 
 abbrev pub Totals-Are-Sums : Type 0
 Totals-Are-Sums = (p : Plan) (rows : List (List ℕ)) (figure : Figures → ℕ) → Sums p rows figure
+
+-- each total lies within the sum of its members' limits of the sum of the exact fractions
+pub record TotalsClose (p : Plan) (rows : List (List ℕ)) (members : List Member) : Type 0 where
+  pub value :
+      Within (total* (λ m. V-limit (caseOf p rows m)) members) (totals p rows members .value)
+      (total* (λ m. PV* (caseOf p rows m) (m .age)) members)
+  pub cost :
+      Within (total* (λ m. N-limit (caseOf p rows m) (methodOf (p .method)) (m .age)) members) (totals p rows members .cost)
+      (total* (λ m. N* (caseOf p rows m) (methodOf (p .method)) (m .age)) members)
+  pub liability :
+      Within (total* (λ m. L-limit (caseOf p rows m) (methodOf (p .method))) members) (totals p rows members .liability)
+      (total* (λ m. L* (caseOf p rows m) (methodOf (p .method)) (m .age)) members)
+
+abbrev pub Totals-Accuracy : Type 0
+Totals-Accuracy = (s : List ℕ) (c : Case) → acceptingOf s ≡ values c → TotalsClose (c .plan) (c .rows) (c .members)
 
 -- ---- the supplemental cost
 -- "its exact fraction, which starts from the unfunded as printed": unfunded × S / C, with the exact C

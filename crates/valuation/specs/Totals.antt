@@ -3,12 +3,18 @@ use mathlib.Core.List.{List, [], _∷_}
 use Prim.Native.Nat.{ℕ, _+_}
 use lib.IntN.{ℤ, pos, _-ℤ_, _*ℤ_}
 use Rattle.rounding.specs.Nearest.{nearestℤ}
+use Rattle.fractions.specs.Ratio.{Ratio, whole, _⊕_}
 use Rattle.annuity.specs.Factors.{S, C}
 use Rattle.plan.specs.declared.Plan.{Plan}
 use Rattle.plan.specs.declared.Member.{Member}
 use Rattle.costs.specs.declared.Figures.{Figures}
 use Rattle.costs.specs.Valuation.{figures}
 use Rattle.valuation.specs.declared.totals.Totals.{Totals}
+
+-- an exact fraction of each member, summed over all of them
+unfoldable pub total* : (Member → Ratio) → List Member → Ratio
+total* exact [] = whole 0
+total* exact (m ∷ more) = exact m ⊕ total* exact more
 
 module _ (p : Plan) (rows : List (List ℕ)) where
   -- "sums of printed cents": a figure of each member, summed over all of them

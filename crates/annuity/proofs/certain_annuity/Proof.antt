@@ -4,7 +4,7 @@ use Prim.Native.Nat.{ℕ, _+_, _-_, _*_, _≤_}
 use native.Mathlib.Nat.{lt-of-le-of-lt}
 use native.Mathlib.Omega.{arith}
 use Rattle.rounding.specs.Nearest.{nearest}
-use Rattle.rounding.proofs.NearestLaws.{nearest-shrinks}
+use Rattle.annuity.proofs.YearStep.{step-shrinks}
 use Rattle.annuity.specs.Factors.{S, C}
 use Rattle.annuity.proofs.Equations.{C-none, C-more}
 use Rattle.annuity.proofs.Sizes.{C-most}
@@ -30,7 +30,7 @@ mul-div-nearest-requires : tie.Need-mul-div-nearest-requires Inv-loop μ-loop
 mul-div-nearest-requires c κs =
     let i = c .before .before .args .i in
     let l = c .before .loop in
-    (omega arith, lt-of-le-of-lt (nearest-shrinks (l .c) 1000000 (100 * (10000 + i)) (omega arith) (omega arith)) (omega (arith, l .inv .0, C-most i (l .paid))))
+    (omega arith, lt-of-le-of-lt (step-shrinks (l .c) 1000000 (100 * (10000 + i)) (omega arith) (omega arith)) (omega (arith, l .inv .0, C-most i (l .paid))))
 
 -- what a turn stores is the annuity of one payment more
 stored : (c : tie.After-mul-div-nearest Inv-loop μ-loop) → S + c .mul-div-nearest .result ≡ C (c .before .before .before .args .i) (c .before .before .loop .paid + 1)

@@ -4,7 +4,7 @@ use mathlib.Core.Path.{ap, _∙_}
 use Prim.Native.Nat.{ℕ, _+_, _*_, _≤_}
 use native.Mathlib.Omega.{arith}
 use Rattle.rounding.specs.Nearest.{nearest}
-use Rattle.rounding.proofs.NearestLaws.{nearest-shrinks}
+use Rattle.annuity.proofs.YearStep.{step-shrinks}
 use Rattle.annuity.proofs.Bases.{stays-most}
 use Rattle.annuity.proofs.step.Statement.{statement}
 use Rattle.annuity.proofs.step.Tie as tie
@@ -22,7 +22,7 @@ mul-div-nearest-requires : tie.Need-mul-div-nearest-requires
 mul-div-nearest-requires c κs =
     let a = c .before .args in
     let p : c .staying .result ≤ 100 * (10000 + a .i) = omega (arith, stays-most (a .row) (a .r) (a .k)) in
-    omega (arith, nearest-shrinks (a .f) (c .staying .result) (100 * (10000 + a .i)) (omega arith) p)
+    omega (arith, step-shrinks (a .f) (c .staying .result) (100 * (10000 + a .i)) (omega arith) p)
 
 returns : tie.Need-returns
 returns c =
