@@ -1,9 +1,11 @@
 -- From the arrays to what is printed, and from what is printed to the answer and the buffer.
 use mathlib.Core.Path.{_≡_, refl, sym, _∙_, ap}
+use mathlib.Core.Bool.{Bool, true, false, cond}
 use mathlib.Core.List.{List, [], _∷_, _++_, append-assoc, append-nil}
-use Prim.Native.Nat.{ℕ, zero, suc, _+_, _≤_, _<_}
+use Prim.Native.Nat.{ℕ, zero, suc, _+_, _^_, _≤_, _<_}
 use native.Mathlib.Omega.{arith}
 use borrow.Author.Tests.{le-leb, lt-leb}
+use lib.Dec.{leb}
 use lib.ListN.{length, getD, take, length-append}
 use lib.Seq.{sets, sets-eq, take-suc, take-length}
 use lib.IntN.{pos, _-ℤ_, _*ℤ_}
@@ -20,11 +22,14 @@ use Rattle.casefile.specs.Case.{Case, AcceptedCase, nobody, acceptingOf, accept
 use Rattle.casefile.specs.Stored.{memberAt, arrayOf, idBeforeAt, rowsAfter, membersAfter, AcceptedArrays}
 use Rattle.casefile.proofs.StoredLaws.{array-member}
 use Rattle.casefile.proofs.Accepted.{accepted-case}
+use Rattle.casefile.specs.Text.{bytes}
+use Rattle.printing.proofs.AmountLaws.{whole-length, width-most}
+use Rattle.printing.proofs.LineLaws.{pair-line-length}
 use Rattle.valuation.specs.declared.Answer.the-variants.{Written, Refused}
 use Rattle.valuation.specs.declared.totals.Totals.{Totals}
 use Rattle.valuation.specs.Totals.{totals, unfunded, supplemental}
 use Rattle.valuation.specs.Lines.{memberLine, memberLines, planLines, printed, refusalLine}
-use Rattle.valuation.specs.Answers.{fitting, valuedOf, answer, buffer, orRefusal, programOf}
+use Rattle.valuation.specs.Answers.{fitting, valuedOf, answer, buffer, orRefusal, programOf, Writes}
 use Rattle.valuation.specs.Worked.{membersIn, AcceptedMembers, Worked, linesIn}
 use Rattle.valuation.proofs.TotalLaws.{integer-signed}
 
@@ -110,17 +115,45 @@ module _ (s : List ℕ) (room : ℕ) where
   valued-refused = refused-by (acceptingOf s) (λ c. fitting room (printed (c .plan) (c .rows) (c .members)))
 
 -- ---- what the program prints, from the two answers
--- where lines were written they stay, and where the case was refused its line is written over the old bytes
+-- a word has 20 digits at most, so that the line of a refusal has 50 bytes at most
+pub refusal-line-most : (number line : ℕ) → number < 2 ^ 64 → line < 2 ^ 64 → length (refusalLine number line) ≤ 50
+unfolding refusalLine
+refusal-line-most number line hn hl =
+    omega (arith, pair-line-length (bytes "refused=") number line, whole-length number, whole-length line, width-most number hn, width-most line hl)
+
+-- where its line fits it is written, and where it doesn't the refusal stays what it was
+module _ (old : List ℕ) (number line : ℕ) where
+  fits-or-not : (t : Bool) {n : ℕ} → Written n ≡ answer (cond t (values (refusalLine number line)) (refusal 30 0)) → t ≡ true
+  fits-or-not true said = refl
+  fits-or-not false said = let z : _≡_ {A = ℕ} 0 1 = cc in absurd (omega arith)
+
+  too-long-line : (t : Bool) {a b : ℕ} → Refused a b ≡ answer (cond t (values (refusalLine number line)) (refusal 30 0)) → t ≡ false
+  too-long-line true said = let z : _≡_ {A = ℕ} 0 1 = cc in absurd (omega arith)
+  too-long-line false said = refl
+
+  pub line-written : {n : ℕ} {out : List ℕ} → Written n ≡ answer (fitting (length old) (refusalLine number line)) → out ≡ buffer (fitting (length old) (refusalLine number line)) old → (Written n ≡ answer (orRefusal (length old) (refusal number line))) × (out ≡ buffer (orRefusal (length old) (refusal number line)) old)
+  unfolding fitting
+  line-written said held =
+      let fits = fits-or-not (leb (length (refusalLine number line)) (length old)) said in
+      rw fits (rw fits at said, rw fits at held)
+
+  pub line-kept : {a b : ℕ} {out : List ℕ} → number < 2 ^ 64 → line < 2 ^ 64 → Refused a b ≡ answer (fitting (length old) (refusalLine number line)) → out ≡ buffer (fitting (length old) (refusalLine number line)) old → (Refused number line ≡ answer (orRefusal (length old) (refusal number line))) × ((out ≡ buffer (orRefusal (length old) (refusal number line)) old) × (50 ≤ length old → Writes (Refused number line)))
+  unfolding fitting
+  line-kept hn hl said held =
+      let long = too-long-line (leb (length (refusalLine number line)) (length old)) said in
+      let room : 50 ≤ length old → Writes (Refused number line) = λ enough.
+      let short = le-leb (length (refusalLine number line)) (length old) (omega (arith, refusal-line-most number line hn hl)) in
+      let z : _≡_ {A = ℕ} 0 1 = cc in absurd (omega arith) in
+      rw long (refl, (rw long at held, room))
+
+-- where lines were written they stay, and where the case was refused the buffer is as it was
 lines-printed : (room : ℕ) (o : Outcome (List ℕ)) (old : List ℕ) {n : ℕ} → Written n ≡ answer o → (answer o ≡ answer (orRefusal room o)) × (buffer o old ≡ buffer (orRefusal room o) old)
 lines-printed room (values lines) old said = (refl, refl)
 lines-printed room (refusal number line) old said = let z : _≡_ {A = ℕ} 0 1 = cc in absurd (omega arith)
 
-refusal-printed : (room : ℕ) (o : Outcome (List ℕ)) (old : List ℕ) {number line : ℕ} → Refused number line ≡ answer o → (fitting room (refusalLine number line) ≡ orRefusal room o) × (buffer o old ≡ old)
-refusal-printed room (values lines) old said = let z : _≡_ {A = ℕ} 0 1 = cc in absurd (omega arith)
-refusal-printed room (refusal n l) old {number} {line} said =
-    let first : number ≡ n = cc in
-    let second : line ≡ l = cc in
-    (rw (first, second), refl)
+refused-as : (o : Outcome (List ℕ)) (old : List ℕ) {number line : ℕ} → Refused number line ≡ answer o → (o ≡ refusal number line) × (buffer o old ≡ old)
+refused-as (values lines) old said = let z : _≡_ {A = ℕ} 0 1 = cc in absurd (omega arith)
+refused-as (refusal n l) old said = (cc, refl)
 
 module _ (s old : List ℕ) where
   pub program-lines : {n : ℕ} {out : List ℕ} → Written n ≡ answer (valuedOf (length old) s) → out ≡ buffer (valuedOf (length old) s) old → (Written n ≡ answer (programOf (length old) s)) × (out ≡ buffer (programOf (length old) s) old)
@@ -129,8 +162,8 @@ module _ (s old : List ℕ) where
       let same = lines-printed (length old) (valuedOf (length old) s) old said in
       (said ∙ same .0, held ∙ same .1)
 
-  pub program-refusal : {number line : ℕ} {out : List ℕ} → Refused number line ≡ answer (valuedOf (length old) s) → out ≡ buffer (valuedOf (length old) s) old → (fitting (length old) (refusalLine number line) ≡ programOf (length old) s) × (out ≡ old)
+  pub program-refusal : {number line : ℕ} {out : List ℕ} → Refused number line ≡ answer (valuedOf (length old) s) → out ≡ buffer (valuedOf (length old) s) old → (orRefusal (length old) (refusal number line) ≡ programOf (length old) s) × (out ≡ old)
   unfolding programOf
   program-refusal said held =
-      let same = refusal-printed (length old) (valuedOf (length old) s) old said in
-      (same .0, held ∙ same .1)
+      let is = refused-as (valuedOf (length old) s) old said in
+      (sym (ap (orRefusal (length old)) (is .0)), held ∙ is .1)

@@ -1,4 +1,5 @@
 -- The answers of the entries that write, and what the buffer holds after them.
+use mathlib.Core.Path.{_≡_}
 use mathlib.Core.Bool.{cond}
 use mathlib.Core.List.{List, _++_}
 use Prim.Native.Nat.{ℕ}
@@ -28,10 +29,15 @@ abbrev pub buffer : Outcome (List ℕ) → List ℕ → List ℕ
 buffer (values lines) old = lines ++ drop (length lines) old
 buffer (refusal number line) old = old
 
--- what the program prints: "the member lines, total, unfunded, supplemental; or the one line refused=number,line"
+-- what the program prints: the lines, or the one line of the refusal; where even that is longer than the buffer, it stays that refusal
 abbrev pub orRefusal : (room : ℕ) → Outcome (List ℕ) → Outcome (List ℕ)
 orRefusal room (values lines) = values lines
-orRefusal room (refusal number line) = fitting room (refusalLine number line)
+orRefusal room (refusal number line) =
+    cond (leb (length (refusalLine number line)) room) (values (refusalLine number line)) (refusal number line)
 
 unfoldable pub programOf : (room : ℕ) → List ℕ → Outcome (List ℕ)
 programOf room case = orRefusal room (valuedOf room case)
+
+-- bytes were written
+abbrev pub Writes : Answer → Type 0
+Writes r = (n : ℕ) × (r ≡ Written n)

@@ -27,9 +27,11 @@ pub use plan::acceptance::accept_plan;
 use printing::lines::pair_line_width;
 use printing::lines::write_pair_line;
 ghost use mathlib.Core.Path.{_≡_};
+ghost use Prim.Native.Nat.{_≤_};
 ghost use lib.ListN.{length};
+ghost use Rattle.casefile.specs.Outcome.{refusal};
 ghost use Rattle.valuation.specs.Lines.{printed, refusalLine};
-ghost use Rattle.valuation.specs.Answers.{fitting, valuedOf, answer, buffer, programOf};
+ghost use Rattle.valuation.specs.Answers.{fitting, valuedOf, answer, buffer, orRefusal, programOf, Writes};
 ghost use Rattle.valuation.specs.Worked.{AcceptedMembers, membersIn};
 
 // The answer of an entry that writes: how many bytes, or a refusal's number and line.
@@ -90,13 +92,27 @@ pub fn refusal_line(number: u64, line: u64, out: &mut [u8]) -> Answer
     Answer::Written(end)
 }
 
-// What the program prints of a case file, at the start of `out`: its lines, or the one line of its refusal.
+// What the program prints of a case file, at the start of `out`: its lines, or the one line of its refusal. Where that
+// line too is longer than `out`, the refusal is answered as it is; with 50 bytes something is always written.
 pub fn print_case(case: &[u8], out: &mut [u8]) -> Answer
     ensures { λ r. ⌜ r ≡ answer (programOf (length (now (out .entry))) (now (case .entry))) ⌝ }
     ensures { λ _. ⌜ now (out .exit) ≡ buffer (programOf (length (now (out .entry))) (now (case .entry))) (now (out .entry)) ⌝ }
+    ensures { λ r. ⌜ (50 ≤ length (now (out .entry)) → Writes r) ⌝ }
 {
     match value_case(case, out) {
         Answer::Written(n) => Answer::Written(n),
-        Answer::Refused(number, line) => refusal_line(number, line, out),
+        Answer::Refused(number, line) => print_refusal(number, line, out),
+    }
+}
+
+// The line of a refusal, at the start of `out`; where it is longer than that, the refusal itself.
+fn print_refusal(number: u64, line: u64, out: &mut [u8]) -> Answer
+    ensures { λ r. ⌜ r ≡ answer (orRefusal (length (now (out .entry))) (refusal number line)) ⌝ }
+    ensures { λ _. ⌜ now (out .exit) ≡ buffer (orRefusal (length (now (out .entry))) (refusal number line)) (now (out .entry)) ⌝ }
+    ensures { λ r. ⌜ (50 ≤ length (now (out .entry)) → Writes r) ⌝ }
+{
+    match refusal_line(number, line, out) {
+        Answer::Written(n) => Answer::Written(n),
+        Answer::Refused(_, _) => Answer::Refused(number, line),
     }
 }

@@ -1,6 +1,6 @@
 -- `valuation::print_case` meets its contract.
 use borrow.Author.Needs.{needs}
-use mathlib.Core.Path.{sym, _∙_, ap}
+use mathlib.Core.Path.{refl, sym, _∙_, ap}
 use Rattle.valuation.specs.Answers.{answer, buffer}
 use Rattle.valuation.proofs.AnswerLaws.{program-lines, program-refusal}
 use Rattle.valuation.proofs.print_case.Statement.{statement}
@@ -15,8 +15,8 @@ enum-known-n c = search needs
 enum-known-number : tie.Need-enum-known-number
 enum-known-number c = search needs
 
-refusal-line-requires : tie.Need-refusal-line-requires
-refusal-line-requires c κs = search needs
+print-refusal-requires : tie.Need-print-refusal-requires
+print-refusal-requires c κs = search needs
 
 same-length : tie.Need-same-length
 same-length c = search needs
@@ -25,7 +25,8 @@ returns : tie.Need-returns
 returns c =
     let a = c .before .before .before .before .before .before .before .before .before .args in
     let v = c .before .before .before .before .before .value-case .ensures in
-    program-lines (a .case .now) (a .out .now) (sym (c .before .n .given .1) ∙ v .0) (v .1)
+    let is = program-lines (a .case .now) (a .out .now) (sym (c .before .n .given .1) ∙ v .0) (v .1) in
+    (is .0, (is .1, λ room. (_, refl)))
 
 same-length-2 : tie.Need-same-length-2
 same-length-2 c = search needs
@@ -34,10 +35,10 @@ returns-2 : tie.Need-returns-2
 returns-2 c =
     let a = c .before .before .before .before .before .before .before .before .before .before .before .before .before .args in
     let v = c .before .before .before .before .before .before .before .before .before .value-case .ensures in
-    let w = c .before .before .refusal-line .ensures in
+    let w = c .before .before .print-refusal .ensures in
     let is = program-refusal (a .case .now) (a .out .now) (sym (c .before .before .before .before .before .number .given .1) ∙ v .0) (v .1) in
     let held = rw (is .1) at w in
-    (held .0 ∙ ap answer (is .0), held .1 ∙ ap (λ o. buffer o (a .out .now)) (is .0))
+    (held .0 ∙ ap answer (is .0), (held .1 .0 ∙ ap (λ o. buffer o (a .out .now)) (is .0), held .1 .1))
 
 pub print-case-spec : {M : Type 1} → statement M
 print-case-spec =
@@ -46,7 +47,7 @@ print-case-spec =
     value-case-requires
     enum-known-n
     enum-known-number
-    refusal-line-requires
+    print-refusal-requires
     same-length
     returns
     same-length-2
