@@ -1,4 +1,4 @@
--- Document 01's own equations of the factors, rounded and exact, from the one recursion. A reader holds these against the paper.
+-- The equations of rules 8.4 to 8.8, rounded and exact, from the one recursion. A reader holds these against the rules.
 use mathlib.Core.Path.{_≡_, ap, _∙_}
 use Prim.Native.Nat.{ℕ, _+_, _-_, _*_, _<_}
 use native.Mathlib.Omega.{arith}

@@ -1,4 +1,4 @@
--- How far each rounded factor lies from its exact fraction, in billionths. Proved in proofs/Accuracy.antt.
+-- How far each factor of RULES section 8 lies from its exact fraction (rule 10.1), in billionths. Proved in proofs/Accuracy.antt.
 use Prim.Native.Nat.{ℕ, _-_, _*_, _≤_, _<_}
 use Rattle.fractions.specs.Ratio.{Ratio, _over_, whole, _⊗_}
 use Rattle.fractions.specs.Fraction.{fraction, Apart}

@@ -1,11 +1,11 @@
--- What the factors rest on. Document 01, 'The case file': "row=age,death,withdrawal,disability,weight for ages 15 to 120 in turn."
+-- What the factors rest on: the table of RULES section 3, a row for each age from 15 up to 120.
 use mathlib.Core.Bool.{cond}
 use mathlib.Core.List.{List, []}
 use Prim.Native.Nat.{ℕ, _+_, _-_, _≤_}
 use lib.ListN.{getD}
 use lib.Dec.{ltb}
 
--- the four numbers of age k: death, withdrawal and disability in millionths, and the weight
+-- rule 3.1, the four numbers of age k: death, withdrawal and disability in millionths, and the weight
 abbrev pub row : List (List ℕ) → ℕ → List ℕ
 row rows k = getD rows (k - 15) []
 
@@ -18,16 +18,16 @@ withdrawal rows k = getD (row rows k) 1 0
 abbrev pub disability : List (List ℕ) → ℕ → ℕ
 disability rows k = getD (row rows k) 2 0
 
--- the weight W(k), the salary scale
+-- rule 3.5, the weight W(k): the salary scale
 abbrev pub weight : List (List ℕ) → ℕ → ℕ
 weight rows k = getD (row rows k) 3 0
 
--- staying at age k, by its row: "Below r, P is 1000000 less the three rates; from r on, less death alone."
+-- rule 8.2, staying at age k, by its row: below r all three rates are taken off, from r on death only
 unfoldable pub stays : List ℕ → ℕ → ℕ → ℕ
 stays row r k =
     cond (ltb k r) (1000000 - (getD row 0 0 + getD row 1 0 + getD row 2 0)) (1000000 - getD row 0 0)
 
--- staying, P(k)
+-- rule 8.2: staying, P(k)
 unfoldable pub staying : List (List ℕ) → ℕ → ℕ → ℕ
 staying rows r k = stays (row rows k) r k
 
@@ -46,7 +46,7 @@ pub record Fair (b : Basis) : Type 0 where
 abbrev pub basis : List (List ℕ) → ℕ → ℕ → Basis
 basis rows r i = record { i = i; r = r; P = staying rows r; W = weight rows }
 
--- nobody leaves, whatever the age: the basis of payments that are certain
+-- rule 8.8, nobody leaves, whatever the age: the basis of payments that are certain
 abbrev pub certain : ℕ → Basis
 certain i = record { i = i; r = 0; P = λ k. 1000000; W = λ k. 0 }
 

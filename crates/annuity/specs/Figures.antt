@@ -1,4 +1,4 @@
--- The factors among document 01's 'Figures worked by hand', worked from the definitions by computing them. A crate above adds its own figures to the list.
+-- The factors among the figures worked by hand (RULES section 14), computed from the definitions. A crate above adds its own figures to the list.
 use mathlib.Core.Path.{_≡_, refl}
 use mathlib.Core.Bool.{Bool, true, false, cond}
 use mathlib.Core.List.{List, [], _∷_, _++_}
@@ -10,17 +10,17 @@ use Rattle.annuity.specs.Recursion.{carried}
 use Rattle.annuity.specs.Basis.{Basis, stays, staying, basis}
 use Rattle.annuity.specs.Factors.{step, A, pension, G, T}
 
--- "The short table: death 0 for ages 15 to 64 and 1000000 from 65; other rates 0; weight 1000 to age 63, 1100 from 64."
+-- rule 14.1, the short table: nobody dies before 65 and all do at 65; the weight is 1000, and 1100 from 64 on
 unfoldable pub short : List (List ℕ)
 short =
     replicate 49 (0 ∷ 0 ∷ 0 ∷ 1000 ∷ [])
     ++ ((0 ∷ 0 ∷ 0 ∷ 1100 ∷ []) ∷ replicate 56 (1000000 ∷ 0 ∷ 0 ∷ 1100 ∷ []))
 
--- "With interest=1000, retire=65"
+-- rule 14.2, the interest and the retirement age of the short case
 abbrev pub short-basis : Basis
 short-basis = basis short 65 1000
 
--- a figure as the definitions give it, and as document 01 prints it
+-- a figure as the definitions give it, and as the rules print it
 infix 5 _is_
 pub data Figure : Type 0 where
   _is_ : ℕ → ℕ → Figure
@@ -30,7 +30,7 @@ abbrev pub all-are : List Figure → Bool
 all-are [] = true
 all-are ((worked is printed) ∷ others) = cond (eqb worked printed) (all-are others) false
 
--- "P G(64) = 909090909; G(63) = 826446281. P T(63,65) = 1909090909."
+-- rule 14.3: G at 64 and 63, and T(63,65)
 unfoldable pub factors : List Figure
 factors =
     (G short-basis 64 is 909090909)

@@ -1,4 +1,4 @@
--- What an array of factors holds. Document 01: "One factor for each of the 106 ages is kept."
+-- What an array of factors holds: rule 8.9, a place for each of the 106 ages.
 use mathlib.Core.Path.{_≡_}
 use mathlib.Core.List.{List}
 use Prim.Native.Nat.{ℕ, _+_, _-_, _*_, _≤_, _<_}
@@ -15,7 +15,7 @@ pub record Filled (F : ℕ → ℕ) (top low : ℕ) (a : List ℕ) : Type 0 wher
   pub upto : (k : ℕ) → low ≤ k → k ≤ top → getD a (k - 15) 0 ≡ F k
   pub above : (k : ℕ) → top < k → k ≤ 120 → getD a (k - 15) 0 ≡ 0
 
--- what is paid each year: nothing for G, S for A and T, W(k) × S for Z
+-- what is paid each year (rules 8.4 to 8.7): nothing for G, S for A and T, W(k) × S for Z
 unfoldable pub amountOf : (weight : ℕ) → Amount → ℕ
 amountOf weight Nothing = 0
 amountOf weight One = S

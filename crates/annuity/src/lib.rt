@@ -1,5 +1,5 @@
-// The annuity factors of document 01, 'The figures': the year step, and A, G, T, Z and C in billionths.
-// specs/Factors.antt has the factors, rounded and exact, in the paper's letters; specs/Accuracy.antt how far apart the
+// The annuity factors, RULES section 8: the year step, and A, G, T, Z and C in billionths.
+// specs/Factors.antt has the factors, rounded and exact, in the rules' letters; specs/Accuracy.antt how far apart the
 // two lie. Here they are worked: the rows go by value to the step functions, and one fill, downward from the last age,
 // serves A, G, T and Z. An array has a place for each of the 106 ages; age k stands at place k - 15.
 // Each `requires` is what an accepted plan shows.
@@ -13,10 +13,10 @@ ghost use Rattle.annuity.specs.Factors.{A as Factors·A, pension as Fact
 ghost use Rattle.annuity.specs.Factors.{S as Factors·S};
 ghost use Rattle.annuity.specs.Filled.{Filled, amountOf, factor};
 
-// One, in billionths.
+// Rule 8.1: one, in billionths.
 pub const S: u64 = 1_000_000_000;
 
-// P(k), by the row of age k: of a million, how many stay the year.
+// Rule 8.2, P(k), by the row of age k: of a million, how many stay the year.
 fn staying(row: [u32; 4], r: usize, k: usize) -> u64
     requires { ⌜ Sound row ⌝ }
     ensures { λ p. ⌜ p ≡ stays row r k ⌝ }
@@ -30,7 +30,7 @@ fn staying(row: [u32; 4], r: usize, k: usize) -> u64
     }
 }
 
-// W(k): the weight of age k.
+// Rule 3.5, W(k): the weight of age k.
 pub fn weight(rows: [[u32; 4]; 106], k: usize) -> u64
     requires { ⌜ (15 ≤ k) × (k ≤ 120) ⌝ }
     ensures { λ w. ⌜ w ≡ Basis·weight rows k ⌝ }
@@ -44,7 +44,7 @@ fn word(x: u32) -> u64
     x as u64
 }
 
-// The year step: the factor f carried back from age k + 1 to k, by the row of age k.
+// Rule 8.3, the year step: the factor f of age k + 1 as it counts at k, by the row of age k.
 fn step(row: [u32; 4], r: usize, i: u64, k: usize, f: u64) -> u64
     requires { ⌜ Sound row × (i ≤ 2000) ⌝ }
     ensures { λ g. ⌜ g ≡ nearest (f * stays row r k) (100 * (10000 + i)) ⌝ }
@@ -70,7 +70,7 @@ fn amount_of(row: [u32; 4], amount: Amount) -> u64
     }
 }
 
-// The factor of each age up to `top`, filled downward from `start` there.
+// Rule 8.9: the factor of each age up to `top`, filled downward from `start` there.
 pub fn fill(
     rows: [[u32; 4]; 106],
     r: usize,
@@ -94,7 +94,7 @@ pub fn fill(
     a
 }
 
-// A(k) for each age.
+// Rule 8.4: A(k) for each age.
 pub fn life_annuity(rows: [[u32; 4]; 106], r: usize, i: u64) -> [u64; 106]
     requires { ⌜ Table rows × (i ≤ 2000) ⌝ }
     ensures { λ a. ⌜ Filled (Factors·A (basis rows r i)) 120 15 a ⌝ }
@@ -102,7 +102,7 @@ pub fn life_annuity(rows: [[u32; 4]; 106], r: usize, i: u64) -> [u64; 106]
     fill(rows, r, i, Amount::One, 120, S)
 }
 
-// The annuity that a pension is worth at retirement: A(r).
+// Rule 8.5, the annuity that a pension is worth at retirement: A(r).
 fn pension(rows: [[u32; 4]; 106], r: usize, i: u64) -> u64
     requires { ⌜ Table rows × (i ≤ 2000) × (15 ≤ r) × (r ≤ 120) ⌝ }
     ensures { λ p. ⌜ p ≡ Factors·pension (basis rows r i) ⌝ }
@@ -111,7 +111,7 @@ fn pension(rows: [[u32; 4]; 106], r: usize, i: u64) -> u64
     life[r - 15]
 }
 
-// G(k) for each age up to r.
+// Rule 8.5: G(k) for each age up to r.
 pub fn deferred_annuity(rows: [[u32; 4]; 106], r: usize, i: u64) -> [u64; 106]
     requires { ⌜ Table rows × (i ≤ 2000) × (15 ≤ r) × (r ≤ 120) ⌝ }
     ensures { λ a. ⌜ Filled (G (basis rows r i)) r 15 a ⌝ }
@@ -120,7 +120,7 @@ pub fn deferred_annuity(rows: [[u32; 4]; 106], r: usize, i: u64) -> [u64; 106]
     fill(rows, r, i, Amount::Nothing, r, start)
 }
 
-// T(k,e) for each age up to e.
+// Rule 8.6: T(k,e) for each age up to e.
 pub fn working_annuity(rows: [[u32; 4]; 106], r: usize, i: u64, e: usize) -> [u64; 106]
     requires { ⌜ Table rows × (i ≤ 2000) × (15 ≤ e) × (e ≤ 120) ⌝ }
     ensures { λ a. ⌜ Filled (λ k. T (basis rows r i) k e) e 15 a ⌝ }
@@ -128,7 +128,7 @@ pub fn working_annuity(rows: [[u32; 4]; 106], r: usize, i: u64, e: usize) -> [u6
     fill(rows, r, i, Amount::One, e, 0)
 }
 
-// Z(k,e) for each age up to e.
+// Rule 8.7: Z(k,e) for each age up to e.
 pub fn pay_annuity(rows: [[u32; 4]; 106], r: usize, i: u64, e: usize) -> [u64; 106]
     requires { ⌜ Table rows × (i ≤ 2000) × (15 ≤ e) × (e ≤ 120) ⌝ }
     ensures { λ a. ⌜ Filled (λ k. Z (basis rows r i) k e) e 15 a ⌝ }
@@ -136,7 +136,7 @@ pub fn pay_annuity(rows: [[u32; 4]; 106], r: usize, i: u64, e: usize) -> [u64; 1
     fill(rows, r, i, Amount::Weight, e, 0)
 }
 
-// C: the annuity of m certain payments.
+// Rule 8.8: C, of m payments that are certain.
 pub fn certain_annuity(i: u64, m: u64) -> u64
     requires { ⌜ (i ≤ 2000) × (m ≤ 40) ⌝ }
     ensures { λ c. ⌜ c ≡ C i m ⌝ }

@@ -1,4 +1,4 @@
--- Fractions of any sign: an integer over a whole number above 0, compared by cross products.
+-- Rules 10.2 and 10.3, fractions of any sign: an integer over a whole number above 0, compared by cross products.
 use mathlib.Core.Path.{_≡_}
 use Prim.Native.Nat.{ℕ, _*_, _<_}
 use lib.IntN.{ℤ, pos, negℤ, natAbs, _*ℤ_, _-ℤ_}
@@ -46,7 +46,7 @@ pub record _≐_ (a b : Fraction) : Type 0 where
   pub right : 0 < b .lower
   pub cross : a .upper *ℤ pos (b .lower) ≡ b .upper *ℤ pos (a .lower)
 
--- a and b differ, either way, by the limit at most
+-- rule 10.3, a and b within a limit: they differ, either way, by the limit at most
 pub record Apart (limit : Ratio) (a b : Fraction) : Type 0 where
   pub left : 0 < a .lower
   pub right : 0 < b .lower

@@ -1,4 +1,4 @@
--- Fractions that are not below 0: two whole numbers, the lower above 0, compared by cross products.
+-- Rules 10.2 and 10.3, fractions that are not below 0: two whole numbers, the lower above 0, compared by cross products.
 use mathlib.Core.Path.{_≡_}
 use Prim.Native.Nat.{ℕ, _+_, _*_, _≤_, _<_}
 

@@ -1,5 +1,5 @@
-// Rounding, as document 01 has it in 'The figures': a product may exceed 64 bits before it is divided, and it is
-// rounded once, after the division, to the nearest whole, a half up; a negative quotient is rounded by its size.
+// Rounding, RULES section 6: the nearest whole, halfway up, and below 0 by the size (rules 6.1 and 6.2); of a product
+// of any width once, after its division (rule 6.3).
 // words.rt has products in two words, division.rt one long division that gives quotient and remainder, and this file
 // the rounded quotients that every figure is made with. The rule itself is `nearest`, in specs/Nearest.antt; callers
 // rest on its laws, in proofs/NearestLaws.antt, and not on its text. Each `requires` is what a caller must show.
@@ -50,7 +50,7 @@ fn words_div_nearest(high: u64, low: u64, d: u64) -> u64
     half_up(division::divide(Wide { high, low }, d), d)
 }
 
-// a * b / d, rounded once, after the division.
+// a * b / d: rule 6.3, the whole product first, and one rounding after the division.
 pub fn mul_div_nearest(a: u64, b: u64, d: u64) -> u64
     requires { ⌜ (0 < d) × (nearest (a * b) d < 2 ^ 64) ⌝ }
     ensures { λ r. ⌜ r ≡ nearest (a * b) d ⌝ }
@@ -58,7 +58,7 @@ pub fn mul_div_nearest(a: u64, b: u64, d: u64) -> u64
     wide_div_nearest(words::product(a, b), d)
 }
 
-// a * b * c / d, rounded once, after the division.
+// a * b * c / d, likewise.
 pub fn mul_mul_div_nearest(a: u64, b: u64, c: u64, d: u64) -> u64
     requires { ⌜ (0 < d) × (nearest (a * b * c) d < 2 ^ 64) ⌝ }
     ensures { λ r. ⌜ r ≡ nearest (a * b * c) d ⌝ }
@@ -72,7 +72,7 @@ pub struct Signed {
     pub size: u64,
 }
 
-// a * b / d for a signed a: rounded by its size, then given its sign.
+// a * b / d for a signed a: rule 6.2, the size is rounded and the sign put back.
 pub fn signed_mul_div_nearest(a: Signed, b: u64, d: u64) -> Signed
     requires { ⌜ (0 < d) × (nearest (a .size * b) d < 2 ^ 64) ⌝ }
     ensures { λ r. ⌜ r ≡ signed (nearestℤ (integer a *ℤ pos b) d) ⌝ }

@@ -121,7 +121,7 @@ fn fits(w: Wide, c: u64) -> bool
     upper.high == 0 && upper.low <= MAX - lower.high
 }
 
-// Writes both: the size of -a is rounded, then given its sign.
+// Writes both; by rule 6.2 the size of -a is rounded, and the sign put back.
 fn rounded(a: u64, b: u64, d: u64)
     requires { ⌜ (0 < d) × (nearest (a * b) d < 2 ^ 64) ⌝ }
 {
