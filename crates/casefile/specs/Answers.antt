@@ -1,4 +1,4 @@
--- What document 01 says of reading and accepting, as statements. proofs/Theorems.antt and proofs/Accepted.antt prove them.
+-- Rules 5.1 and 5.2, on reading and accepting, as statements. proofs/Theorems.antt and proofs/Accepted.antt prove them.
 use Prim.Native.Nat.{ℕ, _<_}
 use mathlib.Core.Path.{_≡_}
 use mathlib.Core.List.{List}
@@ -11,7 +11,7 @@ use Rattle.casefile.specs.Outcome.{values, refusal}
 use Rattle.casefile.specs.Case.{Case, walkOf, readingOf, acceptingOf, accepting, AcceptedCase}
 use Rattle.casefile.specs.Stored.{rowsAfter, membersAfter, AcceptedArrays}
 
--- the seven numbers of form
+-- rule 5.1: the seven numbers of form
 pub data FormNumber : ℕ → Type 0 where
   too-long : FormNumber 1
   cut : FormNumber 2
@@ -21,7 +21,7 @@ pub data FormNumber : ℕ → Type 0 where
   member-form : FormNumber 20
   surplus : FormNumber 27
 
--- the eleven numbers of ranges: 11 to 15 in lines 1 to 114, 21 to 26 in a member's line
+-- rule 12.3, the eleven numbers of ranges: 11 to 15 in lines 1 to 114, 21 to 26 in a member's line
 pub data RangeNumber : ℕ → Type 0 where
   of-a-number : RangeNumber 11
   of-average : RangeNumber 12
@@ -36,12 +36,12 @@ pub data RangeNumber : ℕ → Type 0 where
   of-rise : RangeNumber 26
 
 -- ---- reading
--- "Reading settles form and gives 1, 2, 3, 4, 10, 20 and 27 only."
+-- rule 5.1: a refusal of reading has one of those seven numbers
 abbrev pub ReadingGivesForm : Type 0
 ReadingGivesForm = (s : List ℕ) (n l : ℕ) → readingOf s ≡ Refused n l → FormNumber n
 
--- "Accepting settles ranges too: of both kinds of fault, the first in the order below is given": what reading refuses, accepting refuses
--- too, by the same number and line or by a range's number at an earlier line
+-- rule 5.2, of both kinds of fault the first: what reading refuses, accepting refuses too, by the same number and line or by a
+-- range's number at an earlier line
 pub record RefusedToo (s : List ℕ) (n l : ℕ) : Type 0 where
   pub number : ℕ
   pub line : ℕ

@@ -1,4 +1,4 @@
--- The whole case file, read and accepted. Document 01: "Reading settles form and gives 1, 2, 3, 4, 10, 20 and 27 only. Accepting settles ranges too: of both kinds of fault, the first in the order below is given."
+-- The whole case file: rule 5.1, read for its form; rule 5.2, accepted for its ranges too, by the first refusal in order.
 use Prim.Native.Nat.{ℕ, zero, suc, _≤_, _<_}
 use mathlib.Core.Path.{_≡_}
 use mathlib.Core.List.{List}
@@ -24,7 +24,7 @@ pub record Case : Type 0 where
   pub rows : List (List ℕ)
   pub members : List Member
 
--- one walk, for its form alone or for its ranges too: 8 lines of terms, 106 rows, at most 1,000 members and the end. "1 over 65,536 bytes (line 0)"
+-- one walk, for its form alone or for its ranges too. Rule 1.7: 8 lines of terms, 106 rows, at most 1,000 members and the end; rule 1.1: 65,536 bytes at most
 unfoldable pub walkOf : (ranges : Bool) → List ℕ → Outcome Case
 walkOf ranges s =
     cond (ltb 65536 (length s)) (refusal 1 0)
@@ -33,7 +33,7 @@ walkOf ranges s =
     andThen (membersOf ranges (planOf t) rows 1000 0 0 (linesPast 114 s)) (λ members.
     values (record { plan = planOf t; rows = rows; members = members })))))
 
--- reading: its answer says nothing of ranges
+-- rule 5.1, reading: its answer says nothing of ranges
 abbrev pub reading : Outcome Case → Reading
 reading (values c) = Read
 reading (refusal number line) = ReadingRefused number line
@@ -41,7 +41,7 @@ reading (refusal number line) = ReadingRefused number line
 unfoldable pub readingOf : List ℕ → Reading
 readingOf s = reading (walkOf false s)
 
--- accepting: the plan and the count of members, beside the table and the members themselves
+-- rule 5.2, accepting: the plan and the count of members, beside the table and the members themselves
 unfoldable pub acceptingOf : List ℕ → Outcome Case
 acceptingOf s = walkOf true s
 
@@ -54,12 +54,12 @@ accepting (refusal number line) = AcceptingRefused number line
 abbrev pub nobody : Member
 nobody = record { id = 0; entry = 0; age = 0; salary = 0 }
 
--- "id 1 to 999999999 and above the one before": the id of the member before member j, 0 for the first
+-- rule 4.2: the id of the member before member j, 0 for the first
 abbrev pub idBefore : List Member → ℕ → ℕ
 idBefore l zero = 0
 idBefore l (suc j) = (getD l j nobody) .id
 
--- "Accepting settles ranges too": every range rule is kept, by the plan with its rows and by each member after the one before it
+-- rule 5.2: every range rule is kept, by the plan with its rows and by each member after the one before it
 pub record AcceptedCase (c : Case) : Type 0 where
   pub plan : planRefusal (c .plan) (c .rows) ≡ 0
   pub ages : length (c .rows) ≡ 106

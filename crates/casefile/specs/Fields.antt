@@ -1,4 +1,4 @@
--- Fields with commas between. Document 01, 'The case file': "row=age,death,withdrawal,disability,weight"; "member=id,entry,age,salary".
+-- Fields with commas between, as in a row (rule 3.1) and in a member line (rule 4.1).
 use Prim.Native.Nat.{ℕ}
 use mathlib.Core.List.{List}
 use Rattle.casefile.specs.declared.numbers.Number.{Number}

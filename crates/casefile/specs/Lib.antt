@@ -1,4 +1,4 @@
--- The case file, in the order of document 01.
+-- The case file, RULES sections 1 to 5 and 12.
 pub mod Text
 pub mod Numbers
 pub mod Split

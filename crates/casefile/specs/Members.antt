@@ -1,4 +1,4 @@
--- The lines after the rows: "Then 0 to 1,000 lines member=id,entry,age,salary [..]. Last line end=, the count of members."
+-- The lines after the rows, RULES section 4: up to 1,000 members, and the end line with their count.
 use Prim.Native.Nat.{ℕ, zero, suc, _+_}
 use mathlib.Core.List.{List, [], _∷_}
 use mathlib.Core.Bool.{Bool, true, false, cond}
@@ -19,7 +19,7 @@ use Rattle.casefile.specs.Numbers.{wholeOf, amountOf}
 use Rattle.casefile.specs.Fields.{threeOf, fourthOf}
 use Rattle.casefile.specs.Outcome.{Outcome, values, refusal, prepend, passing, settled}
 
--- three whole numbers and an amount, with commas between
+-- rule 4.1: three whole numbers and an amount, with commas between
 abbrev pub memberMade : Three → Number → Tail
 memberMade (Found id entry age) (Value salary) = OfMember (record { id = id; entry = entry; age = age; salary = salary })
 memberMade (Found id entry age) Malformed = Neither
@@ -28,18 +28,19 @@ memberMade NotThree n = Neither
 unfoldable pub memberOf : List ℕ → Tail
 memberOf s = memberMade (threeOf s) (amountOf (fourthOf s))
 
+-- rule 4.6: a whole number
 abbrev pub endMade : Number → Tail
 endMade (Value n) = OfEnd n
 endMade Malformed = Neither
 
--- "27 a line beginning member= after 1,000 members", whatever follows; "20 neither a member nor an end line, or its form is wrong"
+-- rule 12.3, refusal 27: one member= more than 1,000, however it goes on; refusal 20: no member line and no end line, or a wrong form
 unfoldable pub tailOf : (full : Bool) → List ℕ → Tail
 tailOf full s =
     cond (startsOf (bytes "member=") s)
     (cond full Surplus (memberOf (drop 7 s)))
     (cond (startsOf (bytes "end=") s) (endMade (wholeOf (drop 4 s))) Neither)
 
--- after `count` members the line is count + 115. "3 bytes follow the end line (line after it); 4 the end count is wrong"
+-- rule 4.6: after `count` members the end line is count + 115. Refusal 4: it holds another count; refusal 3: bytes after it, at the line after
 abbrev pub endOf : (n count : ℕ) → List ℕ → Outcome (List Member)
 endOf n count rest =
     cond (eqb n count)
@@ -47,7 +48,7 @@ endOf n count rest =
     (refusal 4 (count + 115))
 
 module _ (ranges : Bool) (p : Plan) (rows : List (List ℕ)) where
-  -- "20 neither a member nor an end line, or its form is wrong"; "27 a line beginning member= after 1,000 members"; and a member's ranges.
+  -- refusals 20 and 27 (rule 12.3), and a member's ranges.
   -- `before` is the id of the member before, 0 for the first; `rest` is what follows the line
   abbrev pub afterTail : (count before : ℕ) → Tail → List ℕ → (Member → Outcome (List Member)) → Outcome (List Member)
   afterTail count before (OfMember m) rest more =
@@ -56,7 +57,7 @@ module _ (ranges : Bool) (p : Plan) (rows : List (List ℕ)) where
   afterTail count before Surplus rest more = refusal 27 (count + 115)
   afterTail count before Neither rest more = refusal 20 (count + 115)
 
-  -- the lines after `count` members, with room for `left` more. "in a line 2, 27, then rising number". With no room left no line is a
+  -- the lines after `count` members, with room for `left` more, in the order of rule 12.4. With no room left no line is a
   -- member's, so nothing is asked of what follows one
   unfoldable pub membersOf : (left count before : ℕ) → List ℕ → Outcome (List Member)
   membersOf zero count before s =

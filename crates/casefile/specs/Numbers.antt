@@ -1,4 +1,4 @@
--- Whole numbers and amounts. Document 01, 'The case file'. Each value takes all of its bytes: "A value must be used up to its last byte."
+-- Whole numbers and amounts. Rule 1.6: each value takes all of its bytes.
 use Prim.Native.Nat.{ℕ, _+_, _-_, _*_}
 use mathlib.Core.List.{List, [], _∷_}
 use mathlib.Core.Bool.{Bool, true, cond, not, _&&_}
@@ -24,20 +24,20 @@ number n (b ∷ s) = number (n * 10 + (b - 48)) s
 unfoldable pub digitsOf : ℕ → List ℕ → Number
 digitsOf n s = cond (digits s) (Value (number n s)) Malformed
 
--- "A whole number is 0, or 1 to 12 decimal digits that don't begin with 0."
+-- rule 1.3, a whole number: 1 to 12 digits, and no 0 before others
 abbrev pub wholeForm : List ℕ → Bool
 wholeForm s = leb 1 (length s) && leb (length s) 12 && not (ltb 1 (length s) && eqb (getD s 0 0) 48)
 
 unfoldable pub wholeOf : List ℕ → Number
 wholeOf s = cond (wholeForm s) (digitsOf 0 s) Malformed
 
--- dollars and hundredths, in cents
+-- rule 1.4: dollars and hundredths, in cents
 abbrev pub inCents : Number → Number → Number
 inCents (Value d) (Value c) = Value (d * 100 + c)
 inCents (Value d) Malformed = Malformed
 inCents Malformed y = Malformed
 
--- "An amount is a whole number, a point and exactly two digits, in dollars; inside, money is whole cents."
+-- rule 1.4, an amount: dollars as a whole number, a point, two digits
 unfoldable pub amountOf : List ℕ → Number
 amountOf s =
     cond (leb 4 (length s) && eqb (getD s (length s - 3) 0) 46)

@@ -1,4 +1,4 @@
--- What a part of the case file gives. Document 01, 'Who can cause a refusal': "A refusal returns its number and line".
+-- What a part of the case file gives: its values, or a refusal (rule 12.1).
 use Prim.Native.Nat.{ℕ}
 use mathlib.Core.List.{List, _++_}
 use mathlib.Core.Bool.{Bool, cond}
@@ -9,7 +9,7 @@ pub data Outcome (A : Type 0) : Type 0 where
   values : A → Outcome A
   refusal : (number line : ℕ) → Outcome A
 
--- what follows is due only where nothing was refused: "line by line"
+-- rule 12.4: what follows is due only where nothing was refused
 abbrev pub andThen : {A B : Type 0} → Outcome A → (A → Outcome B) → Outcome B
 andThen (values a) more = more a
 andThen (refusal number line) more = refusal number line
@@ -23,6 +23,6 @@ prepend before (refusal number line) = refusal number line
 abbrev pub passing : {A : Type 0} → (number line : ℕ) → Outcome A → Outcome A
 passing number line more = cond (eqb number 0) more (refusal number line)
 
--- "Reading settles form [..]. Accepting settles ranges too": a range rule counts where the ranges are settled
+-- rules 5.1 and 5.2: a range rule counts where the ranges are settled
 abbrev pub settled : (ranges : Bool) → ℕ → ℕ
 settled ranges number = cond ranges number 0

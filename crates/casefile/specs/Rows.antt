@@ -1,4 +1,4 @@
--- Lines 9 to 114: "row=age,death,withdrawal,disability,weight for ages 15 to 120 in turn". The range rules are the plan crate's.
+-- The table, RULES section 3: lines 9 to 114, the ages from 15 to 120, each in its turn. The range rules are the plan crate's.
 use Prim.Native.Nat.{ℕ, zero, suc, _+_, _-_}
 use mathlib.Core.List.{List, [], _∷_}
 use mathlib.Core.Bool.{Bool, false, cond, _&&_}
@@ -33,23 +33,23 @@ abbrev pub isAge : Number → ℕ → Bool
 isAge (Value a) age = eqb a age
 isAge Malformed age = false
 
--- row=, the age that is due, a comma and the four numbers
+-- rule 3.1: row=, the age that is due, a comma and the four numbers
 unfoldable pub rowOf : ℕ → List ℕ → RowForm
 rowOf age s = cond (startsOf (bytes "row=") s && isAge (wholeOf (uptoOf 44 (drop 4 s))) age) (ratesOf (pastOf 44 (drop 4 s))) Wrong
 
--- the range rules of a row, its numbers as wide as they stand in the line; `before` is the weight of the age before, 0 where there is none
+-- rules 3.2 to 3.5 of a row, its numbers as wide as they stand in the line; `before` is the weight of the age before, 0 where there is none
 abbrev pub rowRule : (age before death withdrawal disability weight : ℕ) → ℕ
 rowRule age before death withdrawal disability weight =
     firstOf (rowRules age before (record { death = death; withdrawal = withdrawal; disability = disability; weight = weight }))
 
--- "10 lines 1 to 114: wrong key, form, word or row age", and then the ranges. The row of age 15 is line 9
+-- rule 12.4: the form of a row and its age, refusal 10, and then its ranges. The row of age 15 is line 9
 abbrev pub afterRow : (ranges : Bool) → (age before : ℕ) → RowForm → (ℕ → Outcome (List (List ℕ))) → Outcome (List (List ℕ))
 afterRow ranges age before Wrong more = refusal 10 (age - 6)
 afterRow ranges age before (Rates death withdrawal disability weight) more =
     passing (settled ranges (rowRule age before death withdrawal disability weight)) (age - 6)
     (prepend ((death ∷ withdrawal ∷ disability ∷ weight ∷ []) ∷ []) (more weight))
 
--- n rows, the first of them that of the age
+-- n rows, the first of them that of the age. Refusal 2: no byte 10 where a row is due
 unfoldable pub rowsOf : (ranges : Bool) → (n age before : ℕ) → List ℕ → Outcome (List (List ℕ))
 rowsOf ranges zero age before s = values []
 rowsOf ranges (suc n) age before s =

@@ -1,4 +1,4 @@
--- Where a byte first stands, and the parts before and after it: byte 10 ends a line ("Each line ends with byte 10"), byte 44, a comma, a field.
+-- Where a byte first stands, and the parts before and after it: byte 10 ends a line (rule 1.2), byte 44, a comma, a field (rule 1.6).
 use Prim.Native.Nat.{ℕ, zero, suc, _+_}
 use mathlib.Core.List.{List, [], _∷_}
 use mathlib.Core.Bool.{Bool, true, false, cond, _&&_}

@@ -41,12 +41,12 @@ abbrev pub in32 : Outcome (List (List ℕ)) → Outcome (List (List ℕ))
 in32 (values t) = values (each (each narrowOf) t)
 in32 (refusal number line) = refusal number line
 
--- "member=id,entry,age,salary": the words of some members, four of each
+-- rule 4.1: the words of some members, four of each, as a member line has them
 unfoldable pub words : List Member → List ℕ
 words [] = []
 words (m ∷ l) = m .id ∷ m .entry ∷ m .age ∷ m .salary ∷ words l
 
--- "0 to 1,000 lines member=": the array of the members, their words from place 0 on and zeros after
+-- rule 4.1: the array of up to 1,000 members, their words from place 0 on and zeros after
 unfoldable pub arrayOf : List Member → List ℕ
 arrayOf l = sets (replicate 4000 0) 0 (words l)
 

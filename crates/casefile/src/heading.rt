@@ -1,4 +1,4 @@
-// Lines 1 to 8: the plan's own terms.
+// The heading, RULES section 2: lines 1 to 8, the plan's own terms.
 use crate::numbers::Number;
 use crate::numbers::amount;
 use crate::numbers::whole;

@@ -1,8 +1,8 @@
-// The case file of a valuation: document 01, 'The case file'. Reading settles its form, accepting its ranges too. The
-// walk is one, line by line: heading.rt, rows.rt, members.rt, over text.rt and numbers.rt. Every answer is an equation
-// with a definition of specs/ on the list of the bytes; quick.rt alone may leave a line to the others. The range rules
-// are the plan crate's. The entries are read_case and accept_case: two words, two functions, two answers. Neither has a
-// `requires`.
+// The case file of a valuation, RULES sections 1 to 5: reading is for its form (rule 5.1), accepting for its ranges too
+// (rule 5.2). The walk is one, line by line: heading.rt, rows.rt, members.rt, over text.rt and numbers.rt. Every answer
+// is an equation with a definition of specs/ on the list of the bytes; quick.rt alone may leave a line to the others. The
+// range rules are the plan crate's. The entries are read_case and accept_case: two words, two functions, two answers.
+// Neither has a `requires`.
 mod heading;
 mod members;
 mod numbers;
@@ -62,7 +62,7 @@ pub enum Reading {
     Refused(u64, u64),
 }
 
-// Reads a case file for its form.
+// Rule 5.1: reads a case file for its form.
 pub fn read_case(case: &[u8]) -> Reading
     ensures { λ r. ⌜ r ≡ readingOf (now (case .entry)) ⌝ }
 {
@@ -80,9 +80,9 @@ pub enum Accepting {
     Refused(u64, u64),
 }
 
-// Accepts a case file: its form and its ranges. An accepted case is copied out, its table to `rows` and its members to
-// `members`: the id, entry, age and salary of member j at places 4j to 4j + 3, and zeros past the last. A refusal leaves
-// both arrays as they were.
+// Rule 5.2: accepts a case file, its form and its ranges. An accepted case is copied out, its table to `rows` and its
+// members to `members`: the id, entry, age and salary of member j at places 4j to 4j + 3, and zeros past the last. A
+// refusal leaves both arrays as they were.
 pub fn accept_case(case: &[u8], rows: &mut [[u32; 4]; 106], members: &mut [u64; 4000]) -> Accepting
     ensures { λ r. ⌜ r ≡ accepting (acceptingOf (now (case .entry))) ⌝ }
     ensures { λ _. ⌜ now (rows .exit) ≡ rowsAfter (acceptingOf (now (case .entry))) (now (rows .entry)) ⌝ }

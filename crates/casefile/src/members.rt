@@ -1,4 +1,4 @@
-// The lines after the rows: the members and the end.
+// The lines after the rows, RULES section 4: the members and the end.
 use crate::numbers::Number;
 use crate::numbers::Three;
 use crate::numbers::amount;
@@ -50,7 +50,7 @@ fn member_fields(s: &[u8]) -> Tail
     })
 }
 
-// A line after the rows, without its byte 10. When the members are full one more is a surplus.
+// A line after the rows, without its byte 10. When the members are full one more is a surplus (refusal 27).
 fn tail_line(s: &[u8], full: bool) -> Tail
     ensures { λ r. ⌜ r ≡ tailOf full (now (s .entry)) ⌝ }
 {

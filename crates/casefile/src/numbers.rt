@@ -1,4 +1,5 @@
-// Numbers: every value function takes its whole part and answers only where all of it is a number, so that no tail is dropped.
+// Numbers, rules 1.3 to 1.6: every value function takes its whole part and answers only where all of it is a number, so that no
+// tail is dropped.
 use crate::text::past;
 use crate::text::upto;
 ghost use mathlib.Core.Path.{_≡_};
@@ -34,7 +35,7 @@ pub fn digits(s: &[u8]) -> Number
     Number::Value(n)
 }
 
-// All of s is a whole number.
+// Rule 1.3: all of s is a whole number.
 pub fn whole(s: &[u8]) -> Number
     ensures { λ r. ⌜ r ≡ wholeOf (now (s .entry)) ⌝ }
 {
@@ -54,7 +55,7 @@ pub fn whole(s: &[u8]) -> Number
     }
 }
 
-// All of s is an amount; its value is in cents.
+// Rule 1.4: all of s is an amount; its value is in cents.
 pub fn amount(s: &[u8]) -> Number
     ensures { λ r. ⌜ r ≡ amountOf (now (s .entry)) ⌝ }
 {

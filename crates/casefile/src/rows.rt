@@ -1,4 +1,4 @@
-// Lines 9 to 114: a row for each age from 15 to 120.
+// The table, RULES section 3: lines 9 to 114, a row for each age from 15 to 120.
 use crate::numbers::Number;
 use crate::numbers::Three;
 use crate::numbers::fourth;

@@ -1,4 +1,4 @@
-// Text: where a byte first stands, and the parts before and after it.
+// Text: where a byte first stands, and the parts before and after it. Byte 10 ends a line (rule 1.2).
 ghost use mathlib.Core.Path.{_≡_};
 ghost use Prim.Native.Nat.{_<_};
 ghost use lib.ListN.{length};

@@ -4,7 +4,7 @@ use mathlib.Core.List.{List}
 use lib.ListN.{length}
 use Rattle.casefile.specs.Outcome.{Outcome, values, refusal}
 
--- the refusal's number
+-- rule 12.1: the refusal's number
 abbrev pub numberOf : {A : Type 0} → Outcome A → ℕ
 numberOf (values a) = 0
 numberOf (refusal number line) = number

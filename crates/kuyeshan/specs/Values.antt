@@ -6,7 +6,7 @@ use Rattle.plan.specs.declared.Member.{Member}
 use Rattle.costs.specs.declared.Valuation.{Valuation}
 use Rattle.costs.specs.declared.Valuation.the-variants.{Valued, Refused}
 
--- in the order of a member line
+-- rule 4.1: in the order of a member line
 abbrev pub memberOf : List ℕ → Member
 memberOf l = record { id = getD l 0 0; entry = getD l 1 0; age = getD l 2 0; salary = getD l 3 0 }
 
@@ -15,7 +15,7 @@ abbrev pub refusedBy : Valuation → ℕ
 refusedBy (Valued f) = 0
 refusedBy (Refused number line) = number
 
--- B(r), V, N and L; a refusal keeps what was there
+-- rule 9.11, B(r), V, N and L; rule 12.2, a refusal keeps what was there
 abbrev pub figuresAfter : Valuation → List ℕ → List ℕ
 figuresAfter (Valued f) old = f .benefit ∷ f .value ∷ f .cost ∷ f .liability ∷ []
 figuresAfter (Refused number line) old = old

@@ -18,7 +18,7 @@ ghost use Rattle.valuation.specs.Answers.{fitting, valuedOf, buffer};
 ghost use Rattle.kuyeshan.specs.Answers.{numberOf, lineOf, writtenOf};
 ghost use Rattle.kuyeshan.specs.Values.{memberOf, refusedBy, figuresAfter};
 
-// Reads a case file for its form.
+// Rule 5.1: reads a case file for its form.
 #[no_mangle]
 pub extern "C" fn kuyeshan_read(case: &[u8], line: &mut u64) -> u64
     ensures { λ r. ⌜ r ≡ numberOf (walkOf false (now (case .entry))) ⌝ }
@@ -36,7 +36,7 @@ pub extern "C" fn kuyeshan_read(case: &[u8], line: &mut u64) -> u64
     }
 }
 
-// Accepts a case file: its form and its ranges. What accepting hands on stays here.
+// Rule 5.2: accepts a case file, its form and its ranges. What accepting hands on stays here.
 #[no_mangle]
 pub extern "C" fn kuyeshan_accept(case: &[u8], line: &mut u64) -> u64
     ensures { λ r. ⌜ r ≡ numberOf (acceptingOf (now (case .entry))) ⌝ }
@@ -107,8 +107,8 @@ pub extern "C" fn kuyeshan_refusal_line(
     }
 }
 
-// Values a lone member of a plan, all of them plain numbers: its benefit, present value, normal cost and liability go
-// to `figures`. A refusal leaves `figures` as they were; its line would be 0.
+// Rule 5.5: values a lone member of a plan, all of them plain numbers: its benefit, present value, normal cost and
+// liability go to `figures`. A refusal leaves `figures` as they were; its line would be 0.
 #[no_mangle]
 pub extern "C" fn kuyeshan_value_member(
     plan: &[u64; 8],

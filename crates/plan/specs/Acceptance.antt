@@ -1,4 +1,4 @@
--- Accepting a plan, its rows and a member handed in as plain values: document 01's rules in the order of its lines. Cents for money, millionths for rates.
+-- Accepting a plan, its rows and a member handed in as plain values: rule 5.3, the range rules in the order of the lines. Cents for money, millionths for rates.
 use mathlib.Core.Bool.{Bool, true, cond, _&&_}
 use mathlib.Core.List.{List, [], _∷_, _++_}
 use Prim.Native.Nat.{ℕ, zero, suc, _+_, _-_, _≤_, _<_}
@@ -15,36 +15,38 @@ use Rattle.plan.specs.Rules.{unless, firstOf, between}
 use Rattle.plan.specs.Weights.{summed}
 use Rattle.plan.specs.Benefit.{B}
 
--- ---- the heading, lines 1 to 8
--- "interest= basis points (hundredths of a percent), 0 to 2000"; "retire= age r, 50 to 75"
+-- ---- the heading, RULES section 2
+-- rule 2.2, interest: up to 2000 basis points; rule 2.3, retirement: at 50 to 75
 abbrev pub interestRule : ℕ → ℕ
 interestRule i = unless (leb i 2000) 11
 
 abbrev pub retireRule : ℕ → ℕ
 retireRule r = unless (between 50 75 r) 11
 
--- "There a formula or method code that is none of the listed ones gives 10": 1 flat, 2 career, 3 final; 1 AB, 2 BD, 3 BP, 4 CD, 5 CP
+-- rule 5.4, codes: 1 flat, 2 career, 3 final; 1 AB, 2 BD, 3 BP, 4 CD, 5 CP; any other is refused with 10
 abbrev pub formulaRule : ℕ → ℕ
 formulaRule code = unless (between 1 3 code) 10
 
--- "unit= u: for flat, cents of yearly benefit per year of service, 0 to 100000; else basis points of pay, 0 to 500"
+-- rule 2.5, unit: for flat up to 100000 cents a year of service, for the others up to 500 basis points of pay
 abbrev pub unitRule : (formula unit : ℕ) → ℕ
 unitRule formula unit = unless (leb unit (cond (eqb formula 1) 100000 500)) 11
 
--- "average= n: 1 to 10 for final; 0 for the others"
+-- rule 2.6, average: over 1 to 10 years for final, and 0 where the formula has none
 abbrev pub averageRule : (formula average : ℕ) → ℕ
 averageRule formula average = unless (cond (eqb formula 3) (between 1 10 average) (eqb average 0)) 12
 
+-- rule 5.4 again
 abbrev pub methodRule : ℕ → ℕ
 methodRule code = unless (between 1 5 code) 10
 
--- "assets= an amount up to 999999999999.99"; "years= m, 1 to 40"
+-- rule 2.8, assets: at most 999999999999.99; rule 2.9, years: 1 to 40
 abbrev pub assetsRule : ℕ → ℕ
 assetsRule assets = unless (leb assets 99999999999999) 11
 
 abbrev pub yearsRule : ℕ → ℕ
 yearsRule m = unless (between 1 40 m) 11
 
+-- rule 2.1: in the order of the lines
 unfoldable pub headRules : Plan → List ℕ
 headRules p =
     interestRule (p .interest)
@@ -57,8 +59,8 @@ headRules p =
     ∷ yearsRule (p .years)
     ∷ []
 
--- ---- a row, lines 9 to 114: its age, the weight of the age before (0 where there is none), and its four numbers
--- "The rates are millionths, each 0 to 1000000, and their sum is at most 1000000. At 120 death is 1000000. The weight W is the salary scale: 1000 to 100000, never falling from an age to the next."
+-- ---- a row, RULES section 3: its age, the weight of the age before (0 where there is none), and its four numbers
+-- rules 3.2 to 3.5: each rate, their sum, death at 120, and the weight
 unfoldable pub rowRules : (k before : ℕ) → Row → List ℕ
 rowRules k before row =
     unless (leb (row .death) 1000000 && (leb (row .withdrawal) 1000000 && leb (row .disability) 1000000)) 11
@@ -67,7 +69,7 @@ rowRules k before row =
     ∷ unless (between 1000 100000 (row .weight) && leb before (row .weight)) 15
     ∷ []
 
--- the four numbers of a row
+-- rule 3.1: the four numbers of a row
 abbrev pub rowNumbers : List ℕ → Row
 rowNumbers row =
     record { death = getD row 0 0; withdrawal = getD row 1 0; disability = getD row 2 0; weight = getD row 3 0 }
@@ -84,7 +86,7 @@ module _ (rows : List (List ℕ)) where
   rowsRefusal k zero = 0
   rowsRefusal k (suc n) = firstOf (firstOf (rowRules k (weightBefore k) (rowOf k)) ∷ rowsRefusal (suc k) n ∷ [])
 
--- a plan with its rows, ages 15 to 120
+-- rule 5.3, a plan with its rows, ages 15 to 120: the heading goes before the table
 unfoldable pub planRefusal : Plan → List (List ℕ) → ℕ
 planRefusal p rows = firstOf (firstOf (headRules p) ∷ rowsRefusal rows 15 106 ∷ [])
 
@@ -94,7 +96,7 @@ unfoldable pub rises : (F : ℕ → ℕ) → ℕ → ℕ → Bool
 rises F k zero = true
 rises F k (suc n) = leb (F k) (F (suc k)) && rises F (suc k) n
 
--- "id 1 to 999999999 and above the one before; entry y from 15 to r−1; age x from y to r; salary s a yearly amount up to 1000000.00".
+-- rules 4.2 to 4.5: the id, the entry age, the age and the salary.
 -- `before` is the id of the member before, and 0 where there is none
 unfoldable pub fieldRules : Plan → (before : ℕ) → Member → List ℕ
 fieldRules p before m =
@@ -104,17 +106,18 @@ fieldRules p before m =
     ∷ unless (leb (m .salary) 100000000) 24
     ∷ []
 
--- "25 B(r) over 1000000.00; 26 B falls from one age to the next"
+-- rule 7.8: B(r) is at most 1000000.00; rule 7.9: B never falls
 unfoldable pub benefitRules : Plan → List (List ℕ) → Member → List ℕ
 benefitRules p rows m =
     unless (leb (B p rows m (p .retire)) 100000000) 25
     ∷ unless (rises (B p rows m) (m .entry) (p .retire - m .entry)) 26
     ∷ []
 
+-- rule 12.4: from the smallest number up
 unfoldable pub memberRefusal : Plan → List (List ℕ) → (before : ℕ) → Member → ℕ
 memberRefusal p rows before m = firstOf (fieldRules p before m ++ benefitRules p rows m)
 
--- a member that rules 22, 23 and 24 keep
+-- a member that keeps rules 4.3 to 4.5
 pub record Placed (p : Plan) (m : Member) : Type 0 where
   pub grown : 15 ≤ m .entry
   pub enters : m .entry < p .retire
@@ -133,7 +136,7 @@ pub record Sums (rows : List (List ℕ)) (a : List ℕ) : Type 0 where
   pub size : length a ≡ 106
   pub each : (k : ℕ) → 15 ≤ k → k ≤ 120 → getD a (k - 15) 0 ≡ summed (weight rows) 15 (k - 15)
 
--- a member of an accepted plan that rules 22 to 26 keep; its id plays no part in the figures
+-- a member of an accepted plan that keeps rules 4.3 to 4.5, 7.8 and 7.9; its id plays no part in the figures
 pub record AcceptedMember (p : Plan) (rows : List (List ℕ)) (m : Member) : Type 0 where
   pub plan : planRefusal p rows ≡ 0
   pub placed : Placed p m
@@ -141,10 +144,10 @@ pub record AcceptedMember (p : Plan) (rows : List (List ℕ)) (m : Member) : Typ
   pub rising : (k : ℕ) → m .entry ≤ k → k < p .retire → B p rows m k ≤ B p rows m (k + 1)
 
 -- ---- the answers
--- a refusal number as an answer, "with line 0"
+-- rule 5.3, a refusal number as an answer: the line of plain values is 0
 unfoldable pub answer : ℕ → Acceptance
 answer number = cond (eqb number 0) Accepted (Refused number 0)
 
--- a lone member: the plan's refusal comes first, and no id stands before its own
+-- rule 5.5, a lone member: the plan's refusal comes first, and no id stands before its own
 unfoldable pub loneRefusal : Plan → List (List ℕ) → Member → ℕ
 loneRefusal p rows m = firstOf (planRefusal p rows ∷ memberRefusal p rows 0 m ∷ [])

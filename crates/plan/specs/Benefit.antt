@@ -1,4 +1,4 @@
--- Pay and benefit. Document 01, 'The figures'.
+-- Pay and benefit, RULES section 7.
 use mathlib.Core.Bool.{cond}
 use mathlib.Core.List.{List}
 use Prim.Native.Nat.{ℕ, zero, suc, _-_, _*_, min}
@@ -19,7 +19,7 @@ module _ (p : Plan) (rows : List (List ℕ)) (m : Member) where
   open Plan p using (unit, average)
   open Member m using (entry, age, salary)
 
-  -- "Pay at age j is s × W(j) / W(x), exact, also for ages past."
+  -- rule 7.2, pay at age j: exact, along the salary scale, before x too (3.8b)
   unfoldable pub pay : ℕ → Ratio
   pay j = (salary * weight rows j) over weight rows age
 
@@ -28,14 +28,15 @@ module _ (p : Plan) (rows : List (List ℕ)) (m : Member) where
   pays k zero = whole 0
   pays k (suc n) = pay k ⊕ pays (suc k) n
 
-  -- "flat, u × (k−y); career, u/10000 times the pay of ages y to k−1 summed; final, u/10000 × (k−y) × the mean pay of the last n ages before k, or of all k−y if fewer."
+  -- rule 7.3, flat (3.10): u for each year; rule 7.4, career (3.11b): u basis points of all pay so far;
+  -- rule 7.5, final (3.13): u basis points for each year of the average pay of the last n ages, or of all where they are fewer
   unfoldable pub exactBenefit : Formula → ℕ → Ratio
   exactBenefit Flat k = whole (unit * (k - entry))
   exactBenefit Career k = unit over 10000 ⊗ pays entry (k - entry)
   exactBenefit Final k =
       let n = min average (k - entry) in unit over 10000 ⊗ whole (k - entry) ⊗ (pays (k - n) n ⊘ whole n)
 
-  -- "B(y) is 0. B(k) is rounded to the cent in one step; plans pay whole cents."
+  -- rules 7.6 and 7.7, B(k): nothing at entry; else a single rounding to whole cents
   unfoldable pub B : ℕ → ℕ
   B k =
       let exact = exactBenefit (formulaOf (p .formula)) k in

@@ -1,4 +1,4 @@
--- What a rule is. Document 01, 'Who can cause a refusal': "Order: 1; then line by line; in a line 2, 27, then rising number; 30 last."
+-- What a range rule is, and the first refusal of several (rule 12.4).
 use mathlib.Core.Bool.{Bool, cond, _&&_}
 use mathlib.Core.List.{List, [], _∷_}
 use Prim.Native.Nat.{ℕ}

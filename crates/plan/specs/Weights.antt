@@ -1,4 +1,4 @@
--- Sums of weights.
+-- Sums of weights: rules 7.4, 7.5 and 9.4.
 use Prim.Native.Nat.{ℕ, zero, suc, _+_}
 
 -- the weights of the n ages from k on, summed

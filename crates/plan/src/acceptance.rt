@@ -1,4 +1,4 @@
-// Accepting: the rules in the order of the lines. A refusal is its number, and 0 is none.
+// Accepting, rule 5.3: the rules in the order of the lines. A refusal is its number, and 0 is none.
 use crate::Member;
 use crate::Plan;
 use crate::benefit::accrued_benefits;
@@ -27,7 +27,7 @@ ghost use Rattle.plan.specs.Rules.{unless as Rules·unless, between as R
 ghost use Rattle.plan.specs.Acceptance.{headRules, rowsRefusal, planRefusal, fieldRules, memberRefusal, loneRefusal, Accrued, AcceptedMember, answer};
 ghost use Rattle.plan.specs.Acceptance.{rises as Acceptance·rises};
 
-// Lines 1 to 8.
+// The heading, rules 2.2 to 2.9.
 pub fn head_refusal(p: Plan) -> u64
     ensures { λ r. ⌜ r ≡ firstOf (headRules p) ⌝ }
 {
@@ -41,7 +41,7 @@ pub fn head_refusal(p: Plan) -> u64
     or_else(interest_rule(p.interest), retire)
 }
 
-// Lines 9 to 114.
+// The table, rules 3.2 to 3.5.
 pub fn rows_refusal(rows: [[u32; 4]; 106]) -> u64
     ensures { λ r. ⌜ r ≡ rowsRefusal rows 15 106 ⌝ }
 {
@@ -92,7 +92,7 @@ pub fn judge_member(p: Plan, rows: [[u32; 4]; 106], before: u64, m: Member) -> J
     Judged { refusal, benefits }
 }
 
-// The member's fields alone, 21 to 24.
+// The member's fields alone, rules 4.2 to 4.5.
 fn fields_refusal(p: Plan, before: u64, m: Member) -> u64
     ensures { λ r. ⌜ r ≡ firstOf (fieldRules p before m) ⌝ }
 {
@@ -114,7 +114,7 @@ fn id_rule(before: u64, id: u64) -> u64
     unless(both(between(1, 999_999_999, id), before < id), 21)
 }
 
-// Whether what an array holds never falls from the age `from` to the age `to`.
+// Rule 7.9: whether what an array holds never falls from the age `from` to the age `to`.
 fn rises(a: [u64; 106], from: usize, to: usize) -> bool
     requires { ⌜ (15 ≤ from) × (to ≤ 120) ⌝ }
     ensures { λ r. ⌜ r ≡ Acceptance·rises (λ k. getD a (k - 15) 0) from (to - from) ⌝ }

@@ -1,4 +1,4 @@
-// Pay and benefit: B(k) for each age of a member, from exact pay, rounded once to the cent.
+// Pay and benefit, RULES section 7: B(k) for each age of a member, from exact pay, rounded once to the cent.
 use crate::Formula;
 use crate::Member;
 use crate::Plan;
@@ -79,7 +79,7 @@ pub fn weights_between(rows: [[u32; 4]; 106], a: u64, b: u64) -> u64
     weights(&sums, a, b)
 }
 
-// B(k): what has accrued by age k.
+// Rules 7.3 to 7.7, B(k): what has accrued by age k.
 fn benefit(p: Plan, rows: &[[u32; 4]; 106], sums: &[u64; 106], m: Member, k: u64) -> u64
     requires { ⌜ (planRefusal p (now rows) ≡ 0) × Placed p m × Sums (now rows) (now sums) × (m .entry ≤ k) × (k ≤ p .retire) ⌝ }
     ensures { λ r. ⌜ r ≡ B p (now (rows .entry)) m k ⌝ }

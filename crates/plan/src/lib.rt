@@ -1,20 +1,20 @@
-// A plan, its rows and a member handed in as plain values: document 01's range rules ('The case file', 'Who can cause
-// a refusal') and its 'Pay and benefit'. rules.rt has the rules of single lines, acceptance.rt their order, benefit.rt
-// the accrued benefit. specs/ has the paper's lists: Rules, Benefit, Acceptance; every contract is an equation with
+// A plan, its rows and a member handed in as plain values (rules 5.3 to 5.5): the ranges of RULES sections 2, 3 and 4,
+// and pay and benefit, section 7. rules.rt has the rules of single lines, acceptance.rt their order, benefit.rt the
+// accrued benefit. specs/ has the lists of the rules: Rules, Benefit, Acceptance; every contract is an equation with
 // them. A formula or method is a code: 1 flat, 2 career, 3 final; 1 AB, 2 BD, 3 BP, 4 CD, 5 CP; so a field that was
 // never set is refused. Money is in cents, a rate in millionths, and each field is wide enough to hold a wrong value.
 pub mod acceptance;
 pub mod benefit;
 pub mod rules;
 
-// How the benefit accrues.
+// Rule 2.4: how the benefit accrues.
 pub enum Formula {
     Flat,
     Career,
     Final,
 }
 
-// The cost method: accrued benefit; benefit prorate, constant dollar or percent; cost prorate, likewise.
+// Rule 2.7, the cost method: accrued benefit; benefit prorate by dollar or percent; cost prorate by dollar or percent.
 pub enum Method {
     AB,
     BD,

@@ -102,7 +102,7 @@ pub struct Row {
     pub weight: u64,
 }
 
-// A row of the table.
+// A row of the table, rule 3.1.
 pub fn row_of(row: [u32; 4]) -> Row
     ensures { λ r. ⌜ (r ≡ rowNumbers row) × (r .death < 2 ^ 32) × (r .withdrawal < 2 ^ 32) × (r .disability < 2 ^ 32) ⌝ }
 {
@@ -124,7 +124,7 @@ pub fn wide(x: u32) -> u64
     x as u64
 }
 
-// The rule of the row of age k, where the age before has the weight `before`.
+// Rules 3.2 to 3.5 of the row of age k, where the age before has the weight `before`.
 pub fn row_rule(k: usize, before: u64, row: Row) -> u64
     requires { ⌜ (row .death < 2 ^ 40) × (row .withdrawal < 2 ^ 40) × (row .disability < 2 ^ 40) ⌝ }
     ensures { λ r. ⌜ r ≡ firstOf (rowRules k before row) ⌝ }
@@ -149,7 +149,7 @@ fn sum_rule(death: u64, withdrawal: u64, disability: u64) -> u64
     unless(death + withdrawal + disability <= 1_000_000, 13)
 }
 
-// Nobody lives past 120.
+// Rule 3.4: nobody lives past 120.
 fn last_age_rule(k: usize, death: u64) -> u64
     ensures { λ r. ⌜ r ≡ Rules·unless (cond (eqb k 120) (eqb death 1000000) true) 14 ⌝ }
 {

@@ -1,4 +1,4 @@
--- Whole numbers and amounts as they are printed. Document 01: "amounts have the case file's form", and there "A whole number is 0, or 1 to 12 decimal digits that don't begin with 0. An amount is a whole number, a point and exactly two digits".
+-- Whole numbers and amounts as they are printed: rule 13.4, as a case file has them.
 use mathlib.Core.Bool.{cond}
 use mathlib.Core.List.{List, [], _∷_, _++_}
 use Prim.Native.Nat.{ℕ, zero, suc, _+_, _/_, _%_}
@@ -19,15 +19,15 @@ widthUpTo (suc most) n = cond (ltb n 10) 1 (suc (widthUpTo most (n / 10)))
 unfoldable pub width : ℕ → ℕ
 width n = widthUpTo n n
 
--- a whole number
+-- rule 1.3: a whole number
 unfoldable pub whole : ℕ → List ℕ
 whole n = digits (width n) n
 
--- cents as an amount in dollars: "a whole number, a point and exactly two digits"
+-- rule 1.4, cents as an amount in dollars: a whole number, a point, two digits
 unfoldable pub amount : ℕ → List ℕ
 amount cents = whole (cents / 100) ++ 46 ∷ digits 2 cents
 
--- a signed amount: "Digits follow straight after a minus sign already written (byte 45); zero has no sign"
+-- rule 13.4, a signed amount: below 0 the digits come directly after byte 45
 unfoldable pub signedAmount : ℤ → List ℕ
 signedAmount (pos n) = amount n
 signedAmount (negsuc n) = 45 ∷ amount (suc n)

@@ -1,3 +1,3 @@
--- What is printed, in the order of document 01: "amounts have the case file's form", "each line ends with byte 10".
+-- What is printed, RULES section 13: numbers and amounts, and the lines made of them.
 pub mod Amounts
 pub mod Lines

@@ -1,4 +1,4 @@
--- The three kinds of line that are printed. Document 01: "each line ends with byte 10".
+-- The three kinds of line that are printed, rules 13.2 and 13.3. Byte 10 ends each (rule 13.1).
 use mathlib.Core.List.{List, [], _∷_, _++_}
 use Prim.Native.Nat.{ℕ}
 use lib.IntN.{ℤ}

@@ -96,7 +96,7 @@ pub fn put_amount(out: &mut [u8], at: usize, cents: u64) -> usize
     at + write_amount(&mut out[at..], cents)
 }
 
-// A minus sign is due: zero has none.
+// Rule 13.4, a minus sign is due: never before 0.00.
 fn has_sign(z: Signed) -> bool
     ensures { λ r. ⌜ r ≡ (z .negative && ltb 0 (z .size)) ⌝ }
 {
@@ -114,8 +114,8 @@ pub fn signed_width(z: Signed) -> usize
     }
 }
 
-// Writes a signed amount: "Digits follow straight after a minus sign already written". The amount writer is lent the part
-// of the output that begins after the sign.
+// Rule 13.4, writes a signed amount: first the sign, if one is due; then the amount writer is lent the part of the output
+// that begins after the sign.
 pub fn put_signed(out: &mut [u8], at: usize, z: Signed) -> usize
     requires { ⌜ at + length (signedAmount (integer z)) ≤ length (now out) ⌝ }
     ensures { λ r. ⌜ r ≡ at + length (signedAmount (integer z)) ⌝ }

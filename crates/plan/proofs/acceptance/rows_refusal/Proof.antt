@@ -37,7 +37,7 @@ row-rule-requires c κs =
     let e = c .row-of .ensures in
     (omega (arith, e .1), omega (arith, e .2), omega (arith, e .3))
 
--- the row of age k is judged by the paper's rule
+-- the row of age k is judged by the definition's rules
 judged : (c : tie.After-row-rule Inv-loop μ-loop) → let l = c .before .before .before .before .loop in let rows = c .before .before .before .before .before .args .t1 in c .row-rule .result ≡ firstOf (rowRules (l .k) (weightBefore rows (l .k)) (rowOf rows (l .k)))
 judged c =
     let l = c .before .before .before .before .loop in
