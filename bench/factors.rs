@@ -1,5 +1,5 @@
-//! The year step and the fill of factors in Rust's u128, for the benches to hold the proved ones to: document 01, 'Year
-//! step'. Age k stands at place k - 15.
+//! The year step and the fill of factors in Rust's u128, for the benches to hold the proved ones to: RULES section 8. Age k
+//! stands at place k - 15.
 
 pub const AGES: usize = 106;
 pub const FIRST: usize = 15;

@@ -1,5 +1,5 @@
-//! A case file read and accepted in Rust, in one pass over the bytes, for the benches to hold the proved one to: document
-//! 01, 'The case file' and 'Pay and benefit'.
+//! A case file read and accepted in Rust, in one pass over the bytes, for the benches to hold the proved one to: RULES
+//! sections 1 to 5 and 7.
 use crate::factors::{AGES, FIRST, Row, Rows};
 
 pub const LARGEST: usize = 65_536;

@@ -5,7 +5,7 @@
  * equation with the definitions of the rules; it always returns, and does nothing undefined. Nothing checks these
  * declarations against that file, nor what a caller passes.
  *
- * Answers: 0, or the number of a refusal; its line is the line of the case file, or 0 where it has none.
+ * Answers: 0, or the number of a refusal (rule 12.3); its line is the line of the case file, or 0 where it has none.
  *   1 to 4     the file as a whole: too long, cut off, bytes after its end, a wrong count of members
  *   10 to 15   the plan and its table
  *   20 to 27   a member
@@ -28,10 +28,10 @@ extern "C" {
 /* No case file that is accepted is longer. An output buffer of this size is what the program `value` has. */
 #define KUYESHAN_LARGEST 65536
 
-/* Reads a case file for its form alone: 0, or the first refusal, of 1, 2, 3, 4, 10, 20 and 27 only. Sets *line. */
+/* Rule 5.1, reads a case file for its form alone: 0, or the first refusal. Sets *line. */
 uint64_t kuyeshan_read(const uint8_t *case_bytes, size_t case_length, uint64_t *line);
 
-/* Accepts a case file, its form and its ranges: 0, or the first refusal. Sets *line. */
+/* Rule 5.2, accepts a case file, its form and its ranges: 0, or the first refusal. Sets *line. */
 uint64_t kuyeshan_accept(const uint8_t *case_bytes, size_t case_length, uint64_t *line);
 
 /* Values a case file. 0: the lines stand in the first *written bytes of `out`, with no 0 after them, and *line is 0.

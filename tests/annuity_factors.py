@@ -1,4 +1,4 @@
-"""The annuity factors of document 01, 'The figures', as tests/oracle.py works them, held to crates/annuity_factors.
+"""The annuity factors of RULES section 8, as tests/oracle.py works them, held to crates/annuity_factors.
 
     python3 tests/annuity_factors.py --write    writes stdin and stdout of crates/annuity_factors
     python3 tests/annuity_factors.py --check    runs target/bin/annuity_factors on generated tables and compares

@@ -87,7 +87,7 @@ def many(count):
 
 
 def after_a_thousand():
-    """What can stand where line 1,115 is due: 2 comes before 27, and 27 before 20."""
+    """What can stand where line 1,115 is due. Rule 12.4: 2 comes before 27, and 27 before 20."""
     full = many(1000)
     full = full[:full.rindex(b'end=')]
     return [full + rest for rest in (b'member=junk\n', b'member=\n', b'member=1001,63,64,0.00', b'member=', b'membe',
@@ -95,7 +95,7 @@ def after_a_thousand():
 
 
 def worked():
-    """The refusals that document 01 works by hand, each with what reading and accepting must say."""
+    """The refusals worked by hand (RULES section 14), each with what reading and accepting must say."""
     level = {age: (death, 0, 0, 1000) for age, (death, *_) in short_table().items()}
     final = heading(formula='final', unit='500', average='1')
     yield b'', (2, 1), (2, 1)

@@ -1,6 +1,6 @@
-"""The case file of document 01, read and accepted in Python: another program, written from the paper.
+"""The case file of RULES sections 1 to 5, read and accepted in Python: another program, written from the rules alone.
 
-An answer is None where the file is read, or accepted, and else the refusal's number and line.
+An answer is None where the file is read, or accepted, and else the refusal's number and line (RULES section 12).
 """
 import re
 
@@ -24,7 +24,7 @@ class Refused(Exception):
 
 
 class Lines:
-    """The lines in turn. Where the bytes end before a line does, it is refused with 2."""
+    """The lines in turn (rule 1.2). Where the bytes end before a line does, it is refused with 2."""
 
     def __init__(self, case):
         self.case, self.at, self.number = case, 0, 0
@@ -96,7 +96,7 @@ def members(lines, plan, rows, ranges):
 
 
 def walk(case, ranges):
-    """The plan, the rows and the members."""
+    """Rule 1.7: the plan, the rows and the members."""
     if len(case) > MOST_BYTES:
         raise Refused(1, 0)
     lines = Lines(case)

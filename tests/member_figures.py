@@ -5,7 +5,7 @@
 
 A case is a plan, its rows and a member. It goes to the program as bytes, a number's little end first, and the program
 answers with a line: the figures in cents, or the number of a refusal. The check also holds each N and L to the limits
-on their distance from the exact fractions, and each exact L to its future-cost form.
+on their distance from the exact fractions (rule 10.9), and each exact L to its future-cost form (rule 10.8).
 """
 import random
 import struct
@@ -49,14 +49,14 @@ class Case(NamedTuple):
         return f'refused={number},0' if number else 'figures=' + ','.join(map(str, self.figures()))
 
 
-# ---- the cases that document 01 works by hand
+# ---- the cases worked by hand: RULES section 14
 
 def dollars(text):
     return int(text.replace('.', ''))
 
 
 def worked():
-    """Each case with what the paper says of it: some of its figures, or its refusal."""
+    """Each case with what the rules say of it: some of its figures, or its refusal."""
     plan = Plan(1000, 65, FLAT, 10000, 0, CD, 2000, 2)
     said = {
         'AB': ('90.91', '90.91'),
@@ -109,7 +109,7 @@ def worked_bounds(plan):
 
 
 def check_worked():
-    """The oracle gives what the paper works by hand."""
+    """The oracle gives what is worked by hand."""
     for case, said in worked():
         if isinstance(said, int):
             agrees = refusal(*case) == said
@@ -122,7 +122,7 @@ def check_worked():
 
 
 def check_worked_parts():
-    """What the paper works out beside the figures of a member."""
+    """What is worked by hand beside the figures of a member: rules 14.3, 14.4 and 14.7."""
     (plan, rows, member), _ = next(worked())
     final = plan._replace(formula=FINAL, unit=200, average=2), rows, member._replace(salary=dollars('10000.00'))
     factors, costs = Factors(plan, rows, nearest), rounded_costs(plan, rows, member)

@@ -1,7 +1,7 @@
-"""Document 01 (01-scope.md) worked in Python's own integers and fractions: another program, written from the paper.
+"""The rules (docs/RULES.md) worked in Python's own integers and fractions: another program, written from them alone.
 
-It is what the tests compare the Rattle programs with, so it follows the paper's sentences and letters and takes no
-rule from the crates. From crates/plan it takes the codes of plain values, and from crates/costs the sharper limits.
+It is what the tests compare the Rattle programs with, so it follows the rules' words and letters and takes nothing
+from the crates but the codes of plain values, of crates/plan, and the sharper limits, of crates/costs.
 
 Money is in cents. Rows are a dictionary from each age to its death, withdrawal, disability and weight.
 """
@@ -41,7 +41,7 @@ class Member(NamedTuple):
 
 
 class Figures(NamedTuple):
-    """B(r), V, N and L; whole cents, or fractions of a cent."""
+    """Rule 9.11: B(r), V, N and L; whole cents, or fractions of a cent."""
     benefit: int
     value: Fraction
     cost: Fraction
@@ -51,7 +51,7 @@ class Figures(NamedTuple):
 # ---- rows
 
 def table(rates, weights):
-    """Rows from the three rates and the weight of each age. At 120 all die."""
+    """Rows from the three rates and the weight of each age. At 120 all die (rule 3.4)."""
     rows = {k: (*rates(k), weights(k)) for k in AGES}
     rows[LAST] = (MILLION, 0, 0, weights(LAST))
     return rows
@@ -61,22 +61,22 @@ def short_table():
     return table(lambda k: (0 if k <= 64 else MILLION, 0, 0), lambda k: 1000 if k <= 63 else 1100)
 
 
-# ---- rounding
+# ---- rounding: RULES section 6
 
 def nearest(n, d):
-    """n / d to the nearest whole, a half goes up; a negative quotient by its size, then given its sign."""
+    """Rule 6.1, n / d to the nearest whole, halfway up; rule 6.2, below 0 the size is rounded and the sign put back."""
     size = (2 * abs(n) + d) // (2 * d)
     return -size if n < 0 else size
 
 
-# ---- acceptance: the number of a refusal, or 0 for none
+# ---- acceptance: the number of a refusal of RULES section 12, or 0 for none
 
 def outside(value, least, most, number):
     return 0 if least <= value <= most else number
 
 
 def refusals_of_head(plan):
-    """Of the plan's own lines, in their order."""
+    """Of the plan's own lines, in their order: rules 2.2 to 2.9, and rule 5.4 for a code."""
     yield outside(plan.interest, 0, 2000, 11)
     yield outside(plan.retire, 50, 75, 11)
     yield 0 if plan.formula in FORMULAS else 10
@@ -88,7 +88,7 @@ def refusals_of_head(plan):
 
 
 def refusal_of_row(rows, k):
-    """Of the row of age k: the least number of those that it gives."""
+    """Of the row of age k, rules 3.2 to 3.5: the least number of those that it gives."""
     death, withdrawal, disability, weight = rows[k]
     rates = death, withdrawal, disability
     if any(outside(rate, 0, MILLION, 11) for rate in rates):
@@ -102,12 +102,13 @@ def refusal_of_row(rows, k):
 
 
 def refusal_of_plan(plan, rows):
-    """Of the plan and its rows, line by line."""
+    """Of the plan and its rows, line by line (rule 5.3)."""
     return first(refusals_of_head(plan)) or first(refusal_of_row(rows, k) for k in AGES)
 
 
 def refusals_of_member(plan, rows, member, id_before):
-    """Of a member line under an accepted plan, in rising order. The benefit is worked only where the others are 0."""
+    """Of a member line under an accepted plan, rules 4.2 to 4.5, 7.8 and 7.9 in rising order. The benefit is worked only
+    where the others are 0."""
     yield outside(member.id, id_before + 1, 999999999, 21)
     yield outside(member.entry, FIRST, plan.retire - 1, 22)
     yield outside(member.age, member.entry, plan.retire, 23)
@@ -118,7 +119,7 @@ def refusals_of_member(plan, rows, member, id_before):
 
 
 def refusal_of_member(plan, rows, member, id_before=0):
-    """A lone member has no id before it, which is 0 here."""
+    """Rule 5.5: a lone member has no id before it, which is 0 here."""
     return first(refusals_of_member(plan, rows, member, id_before))
 
 
@@ -127,19 +128,19 @@ def first(refusals):
 
 
 def refusal(plan, rows, member):
-    """Of a plan and a lone member handed in as plain values."""
+    """Of a plan and a lone member handed in as plain values: rules 5.3 to 5.5."""
     return refusal_of_plan(plan, rows) or refusal_of_member(plan, rows, member)
 
 
-# ---- pay and benefit
+# ---- pay and benefit: RULES section 7
 
 def pay(rows, member, ages):
-    """The pay of these ages, each s × W(j) / W(x), summed and exact."""
+    """Rule 7.2: the pay of these ages, each s × W(j) / W(x), summed and exact."""
     return Fraction(member.salary * sum(rows[j][3] for j in ages), rows[member.age][3])
 
 
 def exact_benefit(plan, rows, member, k):
-    """B(k) before its one rounding."""
+    """Rules 7.3 to 7.6: B(k) before its one rounding."""
     u, n, y = plan.unit, plan.average, member.entry
     if k == y:
         return Fraction(0)
@@ -152,18 +153,18 @@ def exact_benefit(plan, rows, member, k):
 
 
 def benefit(plan, rows, member, k):
-    """B(k), in whole cents."""
+    """Rule 7.7: B(k), in whole cents."""
     B = exact_benefit(plan, rows, member, k)
     return nearest(B.numerator, B.denominator)
 
 
-# ---- factors
+# ---- factors: RULES section 8
 
 class Factors:
-    """The factors of a plan's interest and retirement age and of its rows, in billionths.
+    """The factors of a plan's interest and retirement age and of its rows, in billionths: rules 8.2 to 8.7.
 
-    `quotient` says what a division gives: `nearest` for the factors of the paper, `Fraction` for the exact ones. Each
-    letter gives its factors as a dictionary by age, from 15 up to the age that it starts from, and works them once.
+    `quotient` says what a division gives: `nearest` for the rounded factors, `Fraction` for the exact ones. Each letter
+    gives its factors as a dictionary by age, from 15 up to the age that it starts from, and works them once.
     """
 
     def __init__(self, plan, rows, quotient):
@@ -178,7 +179,7 @@ class Factors:
         return MILLION - (death + withdrawal + disability if k < self.r else death)
 
     def step(self, k, factor):
-        """The factor of age k+1, carried back to age k."""
+        """Rule 8.3: the factor of age k+1 as it counts at age k."""
         return self.quotient(factor * self.P(k), 100 * (10000 + self.i))
 
     def down(self, end, start, amount):
@@ -202,20 +203,19 @@ class Factors:
 
 
 def certain(i, m, quotient):
-    """C: the annuity of m certain payments, built as T is, P always 1000000."""
+    """Rule 8.8: C, like T over m years in which nobody leaves."""
     c = 0
     for _ in range(m):
         c = S + quotient(c * MILLION, 100 * (10000 + i))
     return c
 
 
-# ---- figures
+# ---- figures: RULES section 9
 
 class Costs:
     """V, N and L of an accepted member at any age k from y through r, by any of the five methods.
 
-    They are the rounded ones or the exact fractions, as the factors are: the exact ones are the same equations with no
-    rounding after B.
+    They are the rounded ones of rules 9.1 to 9.9 or the exact fractions of rule 10.1, as the factors are.
     """
 
     def __init__(self, plan, rows, member, factors):
@@ -262,7 +262,7 @@ class Costs:
         return Figures(self.B(self.r), self.V(k), self.N(method, k), self.L(method, k))
 
     def future_cost_form(self, method, k):
-        """The benefits less the future normal costs: L's other form, where the factors are the exact ones."""
+        """Rule 10.7, the benefits less the future normal costs: L's other form, where the factors are the exact ones."""
         future, staying = 0, 1
         for j in range(k, self.r):
             future += self.N(method, j) * staying
@@ -280,8 +280,9 @@ def exact_costs(plan, rows, member):
 
 # ---- how far the printed figures stray from the exact ones
 
+# Rule 10.9.
 LIMIT = 15
-# The sharper limits are not the paper's: crates/costs/specs/Demand3.antt states them.
+# The sharper limits are not among the rules: crates/costs/specs/Demand3.antt states them.
 SHARP_N = {AB: Fraction('5.8'), BD: Fraction('6.3'), BP: Fraction('6.3'), CD: Fraction('9.35'), CP: Fraction('6.31')}
 SHARP_L = {AB: Fraction('5.8'), BD: Fraction('6.3'), BP: Fraction('6.3'), CD: Fraction('13.4'), CP: Fraction('6.31')}
 

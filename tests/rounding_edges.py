@@ -19,7 +19,7 @@ FACTORS = [1, 2, 3, 2**32 + 1, 2**63]
 
 
 def nearest(n, d):
-    """n / d to the nearest whole, a half up."""
+    """Rule 6.1: n / d to the nearest whole, halfway up."""
     return (2 * n + d) // (2 * d)
 
 
@@ -38,7 +38,7 @@ def divided(n, d):
 
 def two_factors(a, b, d):
     numbers, rounded = divided(a * b, d)
-    # The size is rounded, then given its sign: an integer's zero has none.
+    # Rule 6.2, the size is rounded and the sign put back: an integer's zero has none.
     minus = [-nearest(a * b, d)] if rounded else []
     return [a, b, d] + numbers + minus
 

@@ -1,4 +1,4 @@
-"""The model plan of source document 000, held to the tables that the book prints.
+"""The model plan of the textbook (Winklevoss, Pension Mathematics, second edition), held to the tables that it prints.
 
     python3 tests/textbook.py --check     runs target/bin/value and compares, cell by cell
     python3 tests/textbook.py --oracle    compares what tests/value_oracle.py prints

@@ -1,4 +1,4 @@
-"""Tables of source document 000, Winklevoss, Pension Mathematics (second edition): by age, as they are printed.
+"""Tables of the textbook, Winklevoss, Pension Mathematics (second edition): by age, as they are printed.
 
 They were copied from a machine's reading of the book. In these tables no cell was unreadable, but for the annuities at
 10 percent in row V of table 3-6, which are left out.

@@ -2,8 +2,9 @@
 
     python3 tests/value_files.py --check [--files N] [--seed K]
 
-The program is run once for each file: those that document 01 works by hand, those at a bound, damaged ones, and N drawn
-ones. What it prints as supplemental is also held to its limit, and a member's line must not hang on the other members.
+The program is run once for each file: those that are worked by hand (RULES section 14), those at a bound, damaged ones,
+and N drawn ones. What it prints as supplemental is also held to its limit (rule 11.4), and a member's line must not hang
+on the other members (rule 11.5).
 """
 import argparse
 import random
@@ -43,10 +44,10 @@ def answer(case):
     return subprocess.run([PROGRAM], input=case, stdout=subprocess.PIPE, check=True).stdout
 
 
-# ---- the cases that document 01 works by hand
+# ---- the cases worked by hand: RULES section 14
 
 def worked():
-    """By name, each with the lines that its output begins with as the paper has them: `*` is a field it leaves out."""
+    """By name, each with the lines that its output begins with as the rules have them: `*` is a field they leave out."""
     short, level = short_table(), level_table()
     yield 'the short table', file(heading(), short, [member(7)]), (
         b'member=7,200.00,181.82,86.58,95.24\ntotal=1,181.82,86.58,95.24\nunfunded=75.24\nsupplemental=39.41\n')
@@ -94,7 +95,7 @@ def worked_bounds(short, level):
 
 
 def check_worked():
-    """The oracle prints what the paper works by hand, and what is stored beside the examples."""
+    """The oracle prints what is worked by hand, and what is stored beside the examples."""
     for name, case, said in worked():
         if not re.match(re.escape(said).replace(rb'\*', rb'[^,\n]*'), lines(case)):
             differ(case, f'{name}: document 01 says {said}', f'the oracle {lines(case)}')

@@ -1,4 +1,4 @@
-"""What the program value prints for a case file, in Python: another program, written from document 01.
+"""What the program value prints for a case file, RULES section 13, in Python: another program, written from the rules.
 
     python3 tests/value_oracle.py < FILE    prints it
 
@@ -15,25 +15,25 @@ ROOM = 65536
 
 
 def amount(cents):
-    """In the case file's form. Only what is below zero has a sign."""
+    """Rule 13.4: as in a case file. Only what is below zero has a sign."""
     dollars, rest = divmod(abs(cents), 100)
     return f'{"-" if cents < 0 else ""}{dollars}.{rest:02}'
 
 
-# ---- the plan's figures
+# ---- the plan's figures: RULES section 11
 
 def supplemental(plan, unfunded):
-    """(7.8b), in whole cents."""
+    """Rule 11.3, (7.8b), in whole cents."""
     return nearest(unfunded * S, certain(plan.interest, plan.years, nearest))
 
 
 def exact_supplemental(plan, unfunded):
-    """The same equation as a fraction, which starts from the unfunded as printed."""
+    """Rule 11.4: the same equation as a fraction, from the printed unfunded."""
     return Fraction(unfunded * S) / certain(plan.interest, plan.years, Fraction)
 
 
 def supplemental_limit(unfunded):
-    """How far the printed supplemental may lie from the exact one: half a cent and a two-billionth of the unfunded."""
+    """Rule 11.4, how far the printed one may lie from the exact one: half a cent and a two-billionth of the unfunded."""
     return Fraction(1, 2) + Fraction(abs(unfunded), 2 * S)
 
 
@@ -66,7 +66,7 @@ def valued(plan, rows, members):
 # ---- what is printed
 
 def lines(case, room=ROOM):
-    """The bytes that the program writes for these, where its output buffer has so many."""
+    """The bytes that the program writes for these, where its output buffer has so many: rules 13.2 and 13.3."""
     try:
         written = ended(valued(*walk(case, True)).lines())
         if len(written) > room:
