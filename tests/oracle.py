@@ -107,8 +107,7 @@ def refusal_of_plan(plan, rows):
 
 
 def refusals_of_member(plan, rows, member, id_before):
-    """Of a member line under an accepted plan, rules 4.2 to 4.5, 7.8 and 7.9 in rising order. The benefit is worked only
-    where the others are 0."""
+    """Rules 4.2 to 4.5, 7.8 and 7.9, under an accepted plan. The benefit is worked only where the others are 0."""
     yield outside(member.id, id_before + 1, 999999999, 21)
     yield outside(member.entry, FIRST, plan.retire - 1, 22)
     yield outside(member.age, member.entry, plan.retire, 23)
@@ -262,7 +261,7 @@ class Costs:
         return Figures(self.B(self.r), self.V(k), self.N(method, k), self.L(method, k))
 
     def future_cost_form(self, method, k):
-        """Rule 10.7, the benefits less the future normal costs: L's other form, where the factors are the exact ones."""
+        """Rule 10.7, the benefits less the future normal costs: L's other form, where the factors are exact."""
         future, staying = 0, 1
         for j in range(k, self.r):
             future += self.N(method, j) * staying

@@ -2,8 +2,8 @@
 
     python3 tests/rules.py --check
 
-A citation is 'rule 8.3', 'rules 8.4 to 8.7, 9.1 and 9.2', 'RULES section 8' or 'RULES sections 1 to 5 and 12', also where
-it goes on in the next line. It fails where docs/RULES.md has no such rule or section, or has a number twice.
+A citation is 'rule 8.3', 'rules 8.4 to 8.7, 9.1 and 9.2', 'RULES section 8' or 'RULES sections 1 to 5 and 12', also
+where it goes on in the next line. It fails where docs/RULES.md has no such rule or section, or has a number twice.
 """
 import re
 import sys

@@ -2,9 +2,9 @@
 
     python3 tests/value_files.py --check [--files N] [--seed K]
 
-The program is run once for each file: those that are worked by hand (RULES section 14), those at a bound, damaged ones,
-and N drawn ones. What it prints as supplemental is also held to its limit (rule 11.4), and a member's line must not hang
-on the other members (rule 11.5).
+The program is run once for each file: those worked by hand (RULES section 14), those at a bound, damaged ones, and N
+drawn ones. What it prints as supplemental is also held to its limit (rule 11.4), and a member's line must not hang on
+the other members (rule 11.5).
 """
 import argparse
 import random
@@ -47,7 +47,7 @@ def answer(case):
 # ---- the cases worked by hand: RULES section 14
 
 def worked():
-    """By name, each with the lines that its output begins with as the rules have them: `*` is a field they leave out."""
+    """By name, each with the lines that its output begins with by the rules: `*` is a field that they leave out."""
     short, level = short_table(), level_table()
     yield 'the short table', file(heading(), short, [member(7)]), (
         b'member=7,200.00,181.82,86.58,95.24\ntotal=1,181.82,86.58,95.24\nunfunded=75.24\nsupplemental=39.41\n')

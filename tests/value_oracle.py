@@ -33,7 +33,7 @@ def exact_supplemental(plan, unfunded):
 
 
 def supplemental_limit(unfunded):
-    """Rule 11.4, how far the printed one may lie from the exact one: half a cent and a two-billionth of the unfunded."""
+    """Rule 11.4, how far the printed one may lie from the exact one: half a cent, a two-billionth of the unfunded."""
     return Fraction(1, 2) + Fraction(abs(unfunded), 2 * S)
 
 
