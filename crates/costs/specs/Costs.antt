@@ -1,5 +1,5 @@
--- Present value, normal cost and liability by the five cost methods, each rounded and exact, side by side. Document 01, 'The figures', with the textbook's equation numbers.
--- All are in cents. "At another age k of the member, k stands for x in these equations; pay still starts from the member's own x."
+-- Present value, normal cost and liability by the five cost methods: RULES section 9, rounded, and rule 10.1, exact, side by side, with the textbook's equation numbers.
+-- All are in cents. Rule 9.9: k is any age of the member, and its pay goes on from its own age x.
 use mathlib.Core.Bool.{cond}
 use Prim.Native.Nat.{ℕ, zero, suc, _+_, _-_, _*_}
 use lib.Dec.{ltb}
@@ -20,18 +20,18 @@ module _ (c : Case) where
   abbrev pub W : ℕ → ℕ
   W = basis .W
 
-  -- "M sums the weights of y to r−1."
+  -- rule 9.4, M: the weights of all years of service, summed
   abbrev pub M : ℕ
   M = summed W y (r - y)
 
-  -- "Present value V(k) = B(r) × G(k) / S, rounded to the cent." (5.4a)
+  -- rule 9.1, the present value V(k) of the benefit (5.4a)
   unfoldable pub PV : ℕ → ℕ
   PV k = nearest (B r * G basis k) S
 
   unfoldable pub PV* : ℕ → Ratio
   PV* k = whole (B r) ⊗ G* basis k ⊘ whole S
 
-  -- N below r: AB (6.7a), BD (6.10), BP (6.11), CD (6.14b), CP (6.15)
+  -- rules 9.2 to 9.6, N below r: AB (6.7a), BD (6.10), BP (6.11), CD (6.14b), CP (6.15)
   unfoldable pub cost : Method → ℕ → ℕ
   cost AB k = nearest ((B (k + 1) - B k) * G basis k) S
   cost BD k = nearest (PV k) (r - y)
@@ -46,14 +46,14 @@ module _ (c : Case) where
   cost* CD k = whole (B r) ⊗ G* basis y ⊘ T* basis y r
   cost* CP k = PV* y ⊗ whole (W k * S) ⊘ Z* basis y r
 
-  -- the normal cost N. "At x = r every N is 0."
+  -- rule 9.7, the normal cost N: nothing is left to fund at r
   unfoldable pub N : Method → ℕ → ℕ
   N m k = cond (ltb k r) (cost m k) 0
 
   unfoldable pub N* : Method → ℕ → Ratio
   N* m k = cond (ltb k r) (cost* m k) (whole 0)
 
-  -- the liability L, the part already earned: AB (5.5), BD (5.6), BP (5.7), CD (5.8), CP (5.9)
+  -- rules 9.2 to 9.6, the liability L, the part already earned: AB (5.5), BD (5.6), BP (5.7), CD (5.8), CP (5.9)
   unfoldable pub L : Method → ℕ → ℕ
   L AB k = nearest (B k * G basis k) S
   L BD k = nearest (PV k * (k - y)) (r - y)
@@ -68,7 +68,7 @@ module _ (c : Case) where
   L* CD k = PV* k ⊗ T* basis y k ⊘ T* basis y r
   L* CP k = PV* k ⊗ Z* basis y k ⊘ Z* basis y r
 
-  -- the future normal costs: "a sum: the exact N at each age j from k to r−1, times staying and discount from k to j", here over the n ages from j on
+  -- rule 10.7, the future normal costs: each exact N as it counts at k, summed, here over the n ages from j on
   unfoldable pub costs-from : Method → (k j n : ℕ) → Ratio
   costs-from m k j zero = whole 0
   costs-from m k j (suc n) = N* m j ⊗ v basis k j ⊕ costs-from m k (suc j) n

@@ -1,4 +1,4 @@
--- Demand 3, both parts, and roll-forward, for every sound case, each of the five methods and each age k from y through r.
+-- Demand 3, both parts (rules 10.8 and 10.9), and roll-forward, for every sound case, each of the five methods and each age k from y through r.
 use Prim.Native.Nat.{ℕ, _+_, _*_, _≤_, _<_}
 use Rattle.fractions.specs.Ratio.{Ratio, _over_, whole, _⊕_, _⊗_, _≈_}
 use Rattle.fractions.specs.Fraction.{fraction, _⊖_, _≐_}
@@ -9,11 +9,11 @@ use Rattle.plan.specs.declared.Method.the-variants.{AB, BD, BP, CD, CP}
 use Rattle.costs.specs.Case.{Case, Sound}
 use Rattle.costs.specs.Costs.{r, W, PV, PV*, N, N*, L, L*, future}
 
--- what holds of every sound case, each method and each age k from y through r
+-- rule 10.4: what holds of every sound case, each method and each age k from y through r
 abbrev pub Of-Every-Sound : (Case → Method → ℕ → Type 0) → Type 0
 Of-Every-Sound P = (c : Case) → Sound c → (m : Method) (k : ℕ) → c .y ≤ k → k ≤ r c → P c m k
 
--- the part already earned is the benefits less the future normal costs: equal fractions, by cross products
+-- rule 10.8: the part already earned is the benefits less the future normal costs, equal fractions by cross products
 abbrev pub FormsAgree : Case → Method → ℕ → Type 0
 FormsAgree c m k = fraction (L* c m k) ≐ fraction (PV* c k) ⊖ fraction (future c m k)
 
@@ -61,7 +61,7 @@ abbrev pub Sharp-Limits : Type 0
 Sharp-Limits = Of-Every-Sound WithinLimits
 
 -- ---- the limit that is demanded, which follows
--- the limit of document 01: "by 15 cents at most; for the N of CP by 15 × W(x) / W(y) cents at most, this limit itself not rounded"
+-- rule 10.9: 15 cents, and for the N of CP 15 × W(k) / W(y), which is no rounded number
 unfoldable pub N-most : Case → Method → ℕ → Ratio
 N-most c AB k = 15 over 1
 N-most c BD k = 15 over 1

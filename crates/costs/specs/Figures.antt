@@ -1,4 +1,4 @@
--- Document 01, 'Figures worked by hand': the proved set as far as it concerns factors, benefits, V, N and L, worked from the definitions by one computed check over one list. Cents. The last entry says that the plan and the member are accepted.
+-- RULES section 14, figures worked by hand: those marked P as far as they concern factors, benefits, V, N and L, from the definitions by one computed check over one list. Cents. The last entry says that the plan and the member are accepted.
 use mathlib.Core.Path.{_≡_, refl}
 use mathlib.Core.Bool.{true}
 use mathlib.Core.List.{List, [], _∷_, _++_}
@@ -19,7 +19,7 @@ use Rattle.costs.specs.Case.{Case}
 use Rattle.costs.specs.Costs.{W, PV, cost, N, L}
 use Rattle.costs.specs.Valuation.{caseOf}
 
--- "With interest=1000, retire=65, formula=flat, unit=10000, average=0, method=CD, assets=20.00, years=2, the short table, member=7,63,64,0.00"
+-- rule 14.2: the plan and the member of the short case
 abbrev pub short-plan : Plan
 short-plan =
     record { interest = 1000; retire = 65; formula = 1; unit = 10000; average = 0; method = 4; assets = 2000; years = 2 }
@@ -30,7 +30,7 @@ short-member = record { id = 7; entry = 63; age = 64; salary = 0 }
 abbrev pub short-case : Case
 short-case = caseOf short-plan short short-member
 
--- "unit 200, pay 10000.00 at 64", by a formula and an average
+-- rules 14.6 and 14.7, a benefit from pay, by a formula and an average
 abbrev pay-plan : ℕ → ℕ → Plan
 pay-plan formula average =
     record { interest = 1000; retire = 65; formula = formula; unit = 200; average = average; method = 4; assets = 2000; years = 2 }

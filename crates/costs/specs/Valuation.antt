@@ -22,7 +22,7 @@ use Rattle.costs.specs.Case.{Case}
 use Rattle.costs.specs.Costs.{PV, N, N*, L, L*}
 use Rattle.costs.specs.Demand3.{N-most, FormsAgree, WithinDemand, WithinLimits}
 
--- a method's code: 1 AB, 2 BD, 3 BP, 4 CD, 5 CP
+-- rule 5.4, a method's code: 1 AB, 2 BD, 3 BP, 4 CD, 5 CP
 unfoldable pub methodOf : ℕ → Method
 methodOf code = cond (eqb code 1) AB (cond (eqb code 2) BD (cond (eqb code 3) BP (cond (eqb code 4) CD CP)))
 
@@ -35,20 +35,20 @@ module _ (p : Plan) (rows : List (List ℕ)) (m : Member) where
   abbrev pub caseOf : Case
   caseOf = record { basis = planBasis p rows; B = B p rows m; y = m .entry }
 
-  -- the figures at age k by any method: B(r), V(k), N and L
+  -- rule 9.9, the figures at age k by any method: B(r), V(k), N and L
   unfoldable pub figuresAt : Method → ℕ → Figures
   figuresAt method k =
       record { benefit = B p rows m (p .retire); value = PV caseOf k; cost = N caseOf method k; liability = L caseOf method k }
 
-  -- "The printed N and L are the rounded ones at x by the plan's method."
+  -- rule 9.11, the figures that are printed: at the member's own age, by the plan's own method
   unfoldable pub figures : Figures
   figures = figuresAt (methodOf (p .method)) (m .age)
 
-  -- the figures, or the refusal with line 0
+  -- rule 5.3: the figures, or the refusal with line 0
   unfoldable pub valuation : Valuation
   valuation = let number = loneRefusal p rows m in cond (eqb number 0) (Valued figures) (Refused number 0)
 
-  -- demand 3, of an answer: N and L lie within document 01's limits of their exact fractions
+  -- rule 10.9, of an answer: N and L lie within 15 cents of their exact fractions, N of CP within 15 × W(x) / W(y)
   abbrev pub Limited : Valuation → Type 0
   Limited (Valued f) =
       Within (N-most caseOf (methodOf (p .method)) (m .age)) (f .cost) (N* caseOf (methodOf (p .method)) (m .age))
@@ -72,11 +72,11 @@ Of-Every-Accepted P =
     (p : Plan) (rows : List (List ℕ)) (before : ℕ) (m : Member) → Accepted p rows before m
     → (method : Method) (k : ℕ) → m .entry ≤ k → k ≤ p .retire → P (caseOf p rows m) method k
 
--- the two forms of the liability are equal fractions
+-- rule 10.8: the two forms of the liability are equal fractions
 abbrev pub Demand-3-Forms : Type 0
 Demand-3-Forms = Of-Every-Accepted FormsAgree
 
--- N and L lie within 15 cents of their exact fractions, N of CP within 15 × W(k) / W(y)
+-- rule 10.9: N and L lie within 15 cents of their exact fractions, N of CP within 15 × W(k) / W(y)
 abbrev pub Demand-3-Limits : Type 0
 Demand-3-Limits = Of-Every-Accepted WithinDemand
 

@@ -15,7 +15,7 @@ ghost use Rattle.costs.specs.Valuation.{Ready, caseOf};
 ghost use Rattle.costs.specs.Costs.{N};
 ghost use Rattle.costs.specs.Costs.{cost as Costs·cost};
 
-// N by any method: 0 from r on.
+// N by any method: 0 from r on (rule 9.7).
 pub fn normal_cost(
     p: Plan,
     rows: &[[u32; 4]; 106],
@@ -40,7 +40,7 @@ pub fn normal_cost(
     }
 }
 
-// AB: what accrues in the year.
+// Rule 9.2, AB: what accrues in the year.
 fn accrued_benefit(
     p: Plan,
     rows: &[[u32; 4]; 106],
@@ -56,7 +56,7 @@ fn accrued_benefit(
     worth(year, of_age(deferred, k))
 }
 
-// BD: one year's share of the value.
+// Rule 9.3, BD: one year's share of the value.
 fn benefit_by_years(
     p: Plan,
     rows: &[[u32; 4]; 106],
@@ -72,7 +72,7 @@ fn benefit_by_years(
     rounding::div_nearest(value, p.retire - m.entry)
 }
 
-// BP: a share in proportion to the pay.
+// Rule 9.4, BP: a share in proportion to the pay.
 fn benefit_by_pay(
     p: Plan,
     rows: &[[u32; 4]; 106],
@@ -89,7 +89,7 @@ fn benefit_by_pay(
     share(value, annuity::weight(*rows, k), all)
 }
 
-// CD: a level amount from entry on.
+// Rule 9.5, CD: a level amount from entry on.
 fn cost_by_years(
     p: Plan,
     rows: &[[u32; 4]; 106],
@@ -106,7 +106,7 @@ fn cost_by_years(
     rounding::mul_div_nearest(benefit, of_age(deferred, m.entry as usize), all)
 }
 
-// CP: a level share of the pay from entry on.
+// Rule 9.6, CP: a level share of the pay from entry on.
 fn cost_by_pay(
     p: Plan,
     rows: &[[u32; 4]; 106],

@@ -36,7 +36,7 @@ pub fn liability(
     }
 }
 
-// AB: what has accrued.
+// Rule 9.2, AB: what has accrued.
 fn accrued_benefit(
     p: Plan,
     rows: &[[u32; 4]; 106],
@@ -52,7 +52,7 @@ fn accrued_benefit(
     worth(benefit, of_age(deferred, k))
 }
 
-// BD: the share of the years of service.
+// Rule 9.3, BD: the share of the years of service.
 fn benefit_by_years(
     p: Plan,
     rows: &[[u32; 4]; 106],
@@ -68,7 +68,7 @@ fn benefit_by_years(
     share(value, k as u64 - m.entry, p.retire - m.entry)
 }
 
-// BP: the share of the pay.
+// Rule 9.4, BP: the share of the pay.
 fn benefit_by_pay(
     p: Plan,
     rows: &[[u32; 4]; 106],
@@ -86,7 +86,7 @@ fn benefit_by_pay(
     share(value, past, all)
 }
 
-// CD: the share of the working annuity from entry.
+// Rule 9.5, CD: the share of the working annuity from entry.
 fn cost_by_years(
     p: Plan,
     rows: &[[u32; 4]; 106],
@@ -104,7 +104,7 @@ fn cost_by_years(
     share(value, past, all)
 }
 
-// CP: the share of the pay annuity from entry.
+// Rule 9.6, CP: the share of the pay annuity from entry.
 fn cost_by_pay(
     p: Plan,
     rows: &[[u32; 4]; 106],

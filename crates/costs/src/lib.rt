@@ -1,5 +1,5 @@
-// Present value, normal cost and liability of a member by the five cost methods, and demand 3 entire: document 01,
-// 'The figures'. specs/Costs.antt has the figures, rounded and exact, in the paper's letters; specs/Demand3.antt the two
+// Present value, normal cost and liability of a member by the five cost methods, and demand 3 entire: RULES sections 9
+// and 10. specs/Costs.antt has the figures, rounded and exact, in the rules' letters; specs/Demand3.antt the two
 // statements about them, the equal forms of the liability and the limits; specs/Valuation.antt the answer for plain
 // values. cost.rt works N, liability.rt L, method by method, and parts.rt what they share. `value_member` is the entry:
 // it has no `requires`, and its contract is the figures' equation and the limits on its N and L.
@@ -24,13 +24,13 @@ pub struct Figures {
     pub liability: u64,
 }
 
-// The answer for plain values: the figures, or a refusal's number and line. The line of plain values is 0.
+// The answer for plain values: the figures, or a refusal's number and line. The line of plain values is 0 (rule 5.3).
 pub enum Valuation {
     Valued(Figures),
     Refused(u64, u64),
 }
 
-// Values a lone member of a plan.
+// Rules 5.5 and 9.11: values a lone member of a plan.
 pub fn value_member(p: Plan, rows: [[u32; 4]; 106], m: Member) -> Valuation
     ensures figures { λ r. ⌜ r ≡ valuation p rows m ⌝ }
     ensures limits { λ r. ⌜ Limited p rows m r ⌝ }
@@ -53,7 +53,7 @@ pub fn figures_of(p: Plan, rows: [[u32; 4]; 106], m: Member, benefits: [u64; 106
     figures_at(p, rows, m, benefits, method_of(p.method), m.age as usize)
 }
 
-// The figures of an accepted member at any age of its own, by any method.
+// Rule 9.9: the figures of an accepted member at any age of its own, by any method.
 pub fn figures_at(
     p: Plan,
     rows: [[u32; 4]; 106],

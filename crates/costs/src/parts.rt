@@ -34,7 +34,7 @@ pub fn share(value: u64, part: u64, whole: u64) -> u64
     rounding::mul_div_nearest(value, part, whole)
 }
 
-// V(k).
+// Rule 9.1: V(k).
 pub fn present_value(
     p: Plan,
     rows: &[[u32; 4]; 106],

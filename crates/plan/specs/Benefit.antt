@@ -11,7 +11,7 @@ use Rattle.plan.specs.declared.Formula.the-variants.{Flat, Career, Final
 use Rattle.plan.specs.declared.Plan.{Plan}
 use Rattle.plan.specs.declared.Member.{Member}
 
--- a formula's code: 1 flat, 2 career, 3 final
+-- rule 5.4, a formula's code: 1 flat, 2 career, 3 final
 unfoldable pub formulaOf : ℕ → Formula
 formulaOf code = cond (eqb code 1) Flat (cond (eqb code 2) Career Final)
 

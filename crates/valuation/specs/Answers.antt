@@ -11,25 +11,25 @@ use Rattle.valuation.specs.declared.Answer.{Answer}
 use Rattle.valuation.specs.declared.Answer.the-variants.{Written, Refused}
 use Rattle.valuation.specs.Lines.{printed, refusalLine}
 
--- "30 the output lines are longer than the buffer (line 0)"
+-- rule 12.3, refusal 30: the lines need more room than there is
 unfoldable pub fitting : (room : ℕ) → List ℕ → Outcome (List ℕ)
 fitting room lines = cond (leb (length lines) room) (values lines) (refusal 30 0)
 
--- a case file: its first refusal; "30 last"; else the lines
+-- rule 12.4, a case file: its first refusal, 30 after all others; else the lines
 unfoldable pub valuedOf : (room : ℕ) → List ℕ → Outcome (List ℕ)
 valuedOf room case = andThen (acceptingOf case) (λ c. fitting room (printed (c .plan) (c .rows) (c .members)))
 
--- the answer: how many bytes were written, or "its number and line"
+-- the answer: how many bytes were written, or the refusal's number and line (rule 12.1)
 abbrev pub answer : Outcome (List ℕ) → Answer
 answer (values lines) = Written (length lines)
 answer (refusal number line) = Refused number line
 
--- the buffer after it: the lines and then the old tail; "A refusal returns its number and line; the output buffer keeps its bytes."
+-- rule 12.2, the buffer after it: the lines and then the old tail; after a refusal the old bytes
 abbrev pub buffer : Outcome (List ℕ) → List ℕ → List ℕ
 buffer (values lines) old = lines ++ drop (length lines) old
 buffer (refusal number line) old = old
 
--- what the program prints: the lines, or the one line of the refusal; where even that is longer than the buffer, it stays that refusal
+-- rule 13.1, what the program prints: the lines, or the one line of the refusal; where even that is longer than the buffer, it stays that refusal
 abbrev pub orRefusal : (room : ℕ) → Outcome (List ℕ) → Outcome (List ℕ)
 orRefusal room (values lines) = values lines
 orRefusal room (refusal number line) =

@@ -1,4 +1,4 @@
--- Document 01, 'Figures worked by hand': the whole proved set, the last figure added to those of the crate below, by one computed check over one list; and the lines of the short case.
+-- RULES section 14, figures worked by hand: all that are marked P, the last ones added to those of the crate below, by one computed check over one list; and the lines of the short case.
 use mathlib.Core.Path.{_≡_, refl}
 use mathlib.Core.Bool.{true}
 use mathlib.Core.List.{List, [], _∷_, _++_}
@@ -22,7 +22,7 @@ use Rattle.printing.specs.Lines.{fields, amountsLine, signedLine}
 use Rattle.valuation.specs.Totals.{total, unfunded, supplemental}
 use Rattle.valuation.specs.Lines.{figuresLine, totalLine, planLines, memberLine, memberLines, printed}
 
--- "P unfunded −100.00, years 2: −52.38.": the short plan with no member and assets of 100.00
+-- rule 14.8, the short plan overfunded: no member, and assets of 100.00
 abbrev over-plan : Plan
 over-plan =
     record { interest = 1000; retire = 65; formula = 1; unit = 10000; average = 0; method = 4; assets = 10000; years = 2 }
@@ -40,7 +40,7 @@ pub proved-set-stands : all-are proved-set ≡ true
 unfolding proved-set total unfunded supplemental member-figures factors short stays staying nearest nearestℤ carried step A pension G T Z C _over_ whole _⊕_ _⊗_ inverse summed formulaOf pay pays exactBenefit B PV cost N L loneRefusal planRefusal headRules rowsRefusal rowRules memberRefusal fieldRules benefitRules rises
 proved-set-stands = refl
 
--- the short case, as it is printed
+-- rule 14.2: the short case, as it is printed
 pub short-lines : printed short-plan short (short-member ∷ []) ≡ bytes "member=7,200.00,181.82,86.58,95.24\ntotal=1,181.82,86.58,95.24\nunfunded=75.24\nsupplemental=39.41\n"
 unfolding printed memberLines memberLine planLines totalLine figuresLine amountsLine signedLine fields signedAmount amount wholeText width digits total unfunded supplemental figures figuresAt methodOf formulaOf exactBenefit B PV cost N L short stays staying nearest nearestℤ carried step A pension G T C _over_ whole
 short-lines = refl

@@ -1,4 +1,4 @@
--- A whole plan, in the order of document 01: its totals, the lines that are printed, the answer with the buffer, and what is stated of them.
+-- A whole plan, RULES sections 11 to 13: its totals, the lines that are printed, the answer with the buffer, and what is stated of them.
 pub mod Totals
 pub mod Lines
 pub mod Answers

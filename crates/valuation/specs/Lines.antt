@@ -1,4 +1,4 @@
--- Document 01, 'What is printed': "the member lines, total, unfunded, supplemental". "Fields: id, B(r), V(x), N, L; then count and sums of V, N, L."
+-- What is printed, RULES section 13: the members' lines and the plan's three; or the line of a refusal.
 use mathlib.Core.List.{List, [], _∷_, _++_}
 use Prim.Native.Nat.{ℕ}
 use lib.ListN.{length}
@@ -12,21 +12,21 @@ use Rattle.printing.specs.Lines.{amountsLine, signedLine, pairLine}
 use Rattle.valuation.specs.declared.totals.Totals.{Totals}
 use Rattle.valuation.specs.Totals.{totals, unfunded, supplemental}
 
--- "id, B(r), V(x), N, L"
+-- rule 13.2, a member's line: the id, and B(r), V, N, L
 unfoldable pub figuresLine : (id : ℕ) → Figures → List ℕ
 figuresLine id f = amountsLine (bytes "member=") id (f .benefit ∷ f .value ∷ f .cost ∷ f .liability ∷ [])
 
--- "then count and sums of V, N, L"
+-- rule 13.2, the line of the totals: the count, and V, N, L
 unfoldable pub totalLine : (count : ℕ) → Totals → List ℕ
 totalLine count t = amountsLine (bytes "total=") count (t .value ∷ t .cost ∷ t .liability ∷ [])
 
--- "total, unfunded, supplemental"
+-- rule 13.2: the three lines of the plan
 unfoldable pub planLines : (count : ℕ) → Totals → (unfunded supplemental : ℤ) → List ℕ
 planLines count t unfunded supplemental =
     totalLine count t ++ signedLine (bytes "unfunded=") unfunded ++ signedLine (bytes "supplemental=") supplemental
 
 module _ (p : Plan) (rows : List (List ℕ)) where
-  -- a member's line rests on the plan, the rows and the member alone
+  -- rule 11.5: a member's line rests on the plan, the rows and the member alone
   unfoldable pub memberLine : Member → List ℕ
   memberLine m = figuresLine (m .id) (figures p rows m)
 
@@ -35,11 +35,11 @@ module _ (p : Plan) (rows : List (List ℕ)) where
   memberLines [] = []
   memberLines (m ∷ more) = memberLine m ++ memberLines more
 
-  -- all that is printed of an accepted case
+  -- rule 13.2: all that is printed of an accepted case
   unfoldable pub printed : List Member → List ℕ
   printed members =
       memberLines members ++ planLines (length members) (totals p rows members) (unfunded p rows members) (supplemental p rows members)
 
--- "or the one line refused=number,line"
+-- rule 13.3: the line of a refusal
 unfoldable pub refusalLine : (number line : ℕ) → List ℕ
 refusalLine number line = pairLine (bytes "refused=") number line

@@ -1,4 +1,4 @@
--- What document 01 says of the printed lines, beside the contracts. Proved in proofs/Statements.antt.
+-- What the rules say of the printed lines, beside the contracts. Proved in proofs/Statements.antt.
 use mathlib.Core.Path.{_≡_}
 use mathlib.Core.Bool.{true, false}
 use mathlib.Core.List.{List, [], _∷_, _++_}
@@ -39,25 +39,25 @@ lineOf n s = uptoOf 10 (linesPast (n - 1) s)
 -- ---- an accepted file whose lines fit the buffer
 -- what holds of a member m and its printed line: demands 2 and 3
 pub record MemberPrinted (c : Case) (m : Member) (line : List ℕ) : Type 0 where
-  -- "Fields: id, B(r), V(x), N, L"
+  -- rule 13.2: the line shows its id and its figures
   pub shown : line ++ (10 ∷ []) ≡ figuresLine (m .id) (figures (c .plan) (c .rows) m)
-  -- "alike for a member from a file and for one handed in as plain values": what value_member answers
+  -- rule 9.11, the same figures as plain values: what value_member answers
   pub alike : valuation (c .plan) (c .rows) m ≡ Valued (figures (c .plan) (c .rows) m)
-  -- "Each differs from its exact fraction, either way, by 15 cents at most; for the N of CP by 15 × W(x) / W(y) cents at most"
+  -- rule 10.9: N and L lie within 15 cents of their exact fractions, N of CP within 15 × W(x) / W(y)
   pub limited : Limited (c .plan) (c .rows) m (Valued (figures (c .plan) (c .rows) m))
   -- the limits by the benefit, which are sharper, and V's
   pub close : WithinLimits (caseOf (c .plan) (c .rows) m) (methodOf (c .plan .method)) (m .age)
-  -- the two forms of the liability are equal fractions, at each age of the member and by each method
+  -- rule 10.8: the two forms of the liability are equal fractions, at each age of the member and by each method
   pub forms : (method : Method) (k : ℕ) → m .entry ≤ k → k ≤ c .plan .retire → FormsAgree (caseOf (c .plan) (c .rows) m) method k
 
--- of every member, in its place: "the member lines, total, unfunded, supplemental"
+-- rule 13.2, of every member, in its place: the members' lines stand first
 abbrev pub Every-Member : Type 0
 Every-Member =
     (s out : List ℕ) (room : ℕ) (c : Case) → acceptingOf s ≡ values c → valuedOf room s ≡ values out
     → (j : ℕ) → j < length (c .members) → MemberPrinted c (getD (c .members) j nobody) (lineOf (1 + j) out)
 
--- "Then 0 to 1,000 lines member=id,entry,age,salary [..]. Last line end=, the count of members.": the members of an accepted file s
--- are its lines that begin with member=, no more and no fewer
+-- rules 4.1 and 4.6, the lines after the table: the members of an accepted file s are its lines that begin with member=, no more and
+-- no fewer
 pub record MembersStand (c : Case) (s : List ℕ) : Type 0 where
   -- a line that begins with member= is a member's: none is lost
   pub all : (j : ℕ) → startsOf (bytes "member=") (lineOf (115 + j) s) ≡ true → j < length (c .members)
@@ -69,8 +69,7 @@ pub record MembersStand (c : Case) (s : List ℕ) : Type 0 where
 abbrev pub Members-Are-Lines : Type 0
 Members-Are-Lines = (s : List ℕ) (c : Case) → acceptingOf s ≡ values c → MembersStand c s
 
--- "total, unfunded, supplemental", "each line ends with byte 10"; "then count and sums of V, N, L", and the count is that of the members.
--- All that stands after the members' lines, to the last byte
+-- rules 13.1 and 13.2, the plan's three lines, with the true count: all that stands after the members' lines, to the last byte
 abbrev pub Plan-Lines : Type 0
 Plan-Lines =
     (s out : List ℕ) (room : ℕ) (c : Case) → acceptingOf s ≡ values c → valuedOf room s ≡ values out
@@ -86,7 +85,7 @@ pub record Agreeing (s s' : List ℕ) (j j' : ℕ) : Type 0 where
   pub member : startsOf (bytes "member=") (lineOf (115 + j) s) ≡ true
   pub same : lineOf (115 + j) s ≡ lineOf (115 + j') s'
 
--- "Two accepted files that agree in all lines before the members and in one member line, and whose lines fit their buffers, print the same line for that member."
+-- rule 11.5: whatever the other members are, the same line is printed for the same member.
 -- Where `valuedOf` has values, the file is accepted and the lines fit; the members' lines stand first among them
 abbrev pub Independence : Type 0
 Independence =
@@ -94,7 +93,7 @@ Independence =
     → Agreeing s s' j j' → lineOf (1 + j) out ≡ lineOf (1 + j') out'
 
 -- ---- totals
--- "Totals are sums of printed cents": nothing of no member, a figure of one, and of two lists what the two come to
+-- rule 11.1, totals are sums: nothing of no member, a figure of one, and of two lists what the two come to
 pub record Sums (p : Plan) (rows : List (List ℕ)) (figure : Figures → ℕ) : Type 0 where
   pub none : total p rows figure [] ≡ 0
   pub one : (m : Member) → total p rows figure (m ∷ []) ≡ figure (figures p rows m)
@@ -119,22 +118,22 @@ abbrev pub Totals-Accuracy : Type 0
 Totals-Accuracy = (s : List ℕ) (c : Case) → acceptingOf s ≡ values c → TotalsClose (c .plan) (c .rows) (c .members)
 
 -- ---- the supplemental cost
--- "its exact fraction, which starts from the unfunded as printed": unfunded × S / C, with the exact C
+-- rule 11.4, the exact supplemental: from the printed unfunded, with the exact C
 unfoldable pub supplemental* : Plan → List (List ℕ) → List Member → Fraction
 supplemental* p rows members = integer (unfunded p rows members) ⊙ (whole S ⊘ C* (p .interest) (p .years))
 
--- "It lies within half a cent plus one two-billionth of the unfunded size of its exact fraction"
+-- rule 11.4, how far off the printed one may be: half a cent, and a two-billionth of the unfunded without its sign
 abbrev pub Supplemental-Accuracy : Type 0
 Supplemental-Accuracy =
     (p : Plan) (rows : List (List ℕ)) (members : List Member) → planRefusal p rows ≡ 0
     → Apart (1 over 2 ⊕ natAbs (unfunded p rows members) over 2000000000) (integer (supplemental p rows members)) (supplemental* p rows members)
 
 -- ---- the form of what is printed: proved in proofs/ReadBack.antt and proofs/AmountSizes.antt
--- "amounts have the case file's form": what reads a case file reads a printed number back, and finds what was printed. "A whole number is 0, or 1 to 12 decimal digits that don't begin with 0."
+-- rule 13.4, numbers as in a case file: what reads a case file reads a printed whole number back (rule 1.3), and finds what was printed
 abbrev pub Wholes-Read-Back : Type 0
 Wholes-Read-Back = (n : ℕ) → n < 1000000000000 → wholeOf (wholeNumber n) ≡ Value n
 
--- "An amount is a whole number, a point and exactly two digits, in dollars"
+-- and a printed amount (rule 1.4)
 abbrev pub Amounts-Read-Back : Type 0
 Amounts-Read-Back = (cents : ℕ) → cents < 100000000000000 → amountOf (amount cents) ≡ Value cents
 

@@ -1,4 +1,4 @@
--- Document 01, 'Plan': "Totals are sums of printed cents. Unfunded is total L less assets. Supplemental, (7.8b), is unfunded × S / C".
+-- The plan's own figures, RULES section 11: totals, unfunded and supplemental.
 use mathlib.Core.List.{List, [], _∷_}
 use Prim.Native.Nat.{ℕ, _+_}
 use lib.IntN.{ℤ, pos, _-ℤ_, _*ℤ_}
@@ -17,12 +17,12 @@ total* exact [] = whole 0
 total* exact (m ∷ more) = exact m ⊕ total* exact more
 
 module _ (p : Plan) (rows : List (List ℕ)) where
-  -- "sums of printed cents": a figure of each member, summed over all of them
+  -- rule 11.1, a total: a printed figure of each member, summed over all of them
   unfoldable pub total : (Figures → ℕ) → List Member → ℕ
   total figure [] = 0
   total figure (m ∷ more) = figure (figures p rows m) + total figure more
 
-  -- "sums of V, N, L"
+  -- rule 11.1: the totals of V, N and L
   abbrev pub totals : List Member → Totals
   totals members =
       record {
@@ -31,10 +31,10 @@ module _ (p : Plan) (rows : List (List ℕ)) where
         liability = total (λ f. f .liability) members;
       }
 
-  -- "Unfunded is total L less assets."
+  -- rule 11.2, unfunded: the liability that the assets leave open, below 0 where they are more
   unfoldable pub unfunded : List Member → ℤ
   unfunded members = pos (totals members .liability) -ℤ pos (p .assets)
 
-  -- "Supplemental, (7.8b), is unfunded × S / C, C the annuity of m certain payments"
+  -- rule 11.3, supplemental: the unfunded over the certain annuity of m payments (7.8b)
   unfoldable pub supplemental : List Member → ℤ
   supplemental members = nearestℤ (unfunded members *ℤ pos S) (C (p .interest) (p .years))

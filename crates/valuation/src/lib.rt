@@ -1,4 +1,4 @@
-// The valuation of a whole plan: document 01, 'Plan' and 'What is printed'. totals.rt works the figures of all members
+// The valuation of a whole plan: RULES sections 11 and 13. totals.rt works the figures of all members
 // and sums them, lines.rt writes the lines; specs/ has the totals, the lines and the answers. The entries are value_case,
 // refusal_line and print_case here, and those of the layers below, which are passed on: read_case, accept_case, accept_plan,
 // accept_member, value_member. None has a `requires`.
@@ -80,7 +80,7 @@ fn value_accepted(
     Answer::Written(end)
 }
 
-// Writes the one line of a refusal, `refused=number,line`, at the start of `out`.
+// Rule 13.3: writes the one line of a refusal at the start of `out`.
 pub fn refusal_line(number: u64, line: u64, out: &mut [u8]) -> Answer
     ensures { λ r. ⌜ r ≡ answer (fitting (length (now (out .entry))) (refusalLine number line)) ⌝ }
     ensures { λ _. ⌜ now (out .exit) ≡ buffer (fitting (length (now (out .entry))) (refusalLine number line)) (now (out .entry)) ⌝ }
@@ -92,8 +92,8 @@ pub fn refusal_line(number: u64, line: u64, out: &mut [u8]) -> Answer
     Answer::Written(end)
 }
 
-// What the program prints of a case file, at the start of `out`: its lines, or the one line of its refusal. Where that
-// line too is longer than `out`, the refusal is answered as it is; with 50 bytes something is always written.
+// Rule 13.1, what the program prints of a case file, at the start of `out`: its lines, or the one line of its refusal.
+// Where that line too is longer than `out`, the refusal is answered as it is; with 50 bytes something is always written.
 pub fn print_case(case: &[u8], out: &mut [u8]) -> Answer
     ensures { λ r. ⌜ r ≡ answer (programOf (length (now (out .entry))) (now (case .entry))) ⌝ }
     ensures { λ _. ⌜ now (out .exit) ≡ buffer (programOf (length (now (out .entry))) (now (case .entry))) (now (out .entry)) ⌝ }

@@ -1,4 +1,4 @@
-// The lines of the members and of the plan: how many bytes they take, and writing them.
+// The lines of the members and of the plan, rule 13.2: how many bytes they take, and writing them.
 use crate::totals::Totals;
 use crate::totals::figures_at;
 use crate::totals::member_at;

@@ -16,7 +16,7 @@ ghost use Rattle.casefile.specs.Stored.{memberAt};
 ghost use Rattle.valuation.specs.Totals.{totals};
 ghost use Rattle.valuation.specs.Worked.{AcceptedMembers, storedFigures, words, membersIn, Worked};
 
-// The sums of the printed V, N and L, in cents.
+// Rule 11.1: the sums of the printed V, N and L, in cents.
 pub struct Totals {
     pub value: u64,
     pub cost: u64,
@@ -101,7 +101,7 @@ pub(crate) fn work(
     }
 }
 
-// Total L less assets.
+// Rule 11.2: what the assets leave open of the liability.
 pub(crate) fn unfunded_of(liability: u64, assets: u64) -> Signed
     ensures { λ z. ⌜ z ≡ signed (pos liability -ℤ pos assets) ⌝ }
 {
@@ -118,7 +118,7 @@ pub(crate) fn unfunded_of(liability: u64, assets: u64) -> Signed
     }
 }
 
-// The yearly payment that pays the unfunded off in so many years.
+// Rule 11.3: the yearly payment that pays the unfunded off in so many years.
 pub(crate) fn supplemental_of(unfunded: Signed, interest: u64, years: u64) -> Signed
     requires { ⌜ (interest ≤ 2000) × (1 ≤ years) × (years ≤ 40) ⌝ }
     ensures { λ z. ⌜ z ≡ signed (nearestℤ (integer unfunded *ℤ pos Factors·S) (C interest years)) ⌝ }
