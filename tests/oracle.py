@@ -118,7 +118,7 @@ def refusals_of_member(plan, rows, member, id_before):
 
 
 def refusal_of_member(plan, rows, member, id_before=0):
-    """Rule 5.5: a lone member has no id before it, which is 0 here."""
+    """Rule 5.5: nobody stands before a lone member, and 0 is the id of nobody."""
     return first(refusals_of_member(plan, rows, member, id_before))
 
 

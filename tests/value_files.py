@@ -257,7 +257,7 @@ def sign(number):
 
 
 def check_independence(rng, pairs):
-    """Two files that agree in the lines before the members and in one member line print the same line for it."""
+    """Rule 11.5: a member's line stays as it is when the other members change."""
     for _ in range(pairs):
         plan, rows, members = drawn_valued(rng, 5)
         kept = rng.choice(members)

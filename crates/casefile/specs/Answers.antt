@@ -40,7 +40,7 @@ pub data RangeNumber : ℕ → Type 0 where
 abbrev pub ReadingGivesForm : Type 0
 ReadingGivesForm = (s : List ℕ) (n l : ℕ) → readingOf s ≡ Refused n l → FormNumber n
 
--- rule 5.2, of both kinds of fault the first: what reading refuses, accepting refuses too, by the same number and line or by a
+-- rule 5.2, whichever kind of fault comes first: what reading refuses, accepting refuses too, by the same number and line or by a
 -- range's number at an earlier line
 pub record RefusedToo (s : List ℕ) (n l : ℕ) : Type 0 where
   pub number : ℕ

@@ -1,4 +1,4 @@
--- RULES section 14, figures worked by hand: those marked P as far as they concern factors, benefits, V, N and L, from the definitions by one computed check over one list. Cents. The last entry says that the plan and the member are accepted.
+-- RULES section 14, figures worked by hand: those with a P as far as they concern factors, benefits, V, N and L, computed from the definitions as one list. Cents. The last entry says that the plan and the member are accepted.
 use mathlib.Core.Path.{_≡_, refl}
 use mathlib.Core.Bool.{true}
 use mathlib.Core.List.{List, [], _∷_, _++_}

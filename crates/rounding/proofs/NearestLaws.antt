@@ -48,7 +48,7 @@ nearest-cross n d m e hd he cross =
     (le-of-mul-le-mul-right {m = 2 * d * q} {n = 2 * n + d} {k = e} (omega (arith, mul-le-mul-right d (half-up-low m e))) he)
     (lt-of-mul-lt-mul-right e {m = 2 * n + d} {n = 2 * d * (q + 1)} (omega (arith, mul-lt-mul-of-pos-right {k = d} (half-up-high m e he) hd)))
 
--- a negative quotient is rounded by its size
+-- rule 6.2: below 0 the size is rounded
 pub nearest-negative : (n d : ℕ) → 0 < d → nearestℤ (negℤ (pos n)) d ≡ negℤ (pos (nearest n d))
 unfolding nearestℤ
 nearest-negative zero d h = let none : nearest zero d ≡ zero = omega (arith, nearest-le zero d h) in rw none

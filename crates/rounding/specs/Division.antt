@@ -5,7 +5,7 @@ use Rattle.rounding.specs.declared.division.Division.{Division}
 use Rattle.rounding.specs.declared.division.Taken.{Taken}
 use Rattle.rounding.specs.Words.{value}
 
--- s divides n by d: quotient times divisor plus remainder is what was divided, and the remainder is below the divisor
+-- s divides n by d: d as often as the quotient says, and the remainder, make up n, and the remainder is less than d
 pub record DivisionOf (n d : ℕ) (s : Division) : Type 0 where
   pub same : s .quotient * d + s .remainder ≡ n
   pub less : s .remainder < d

@@ -1,4 +1,4 @@
--- What is printed reads back as what was printed: numbers and amounts have the case file's form.
+-- What is printed reads back as what was printed: rule 13.4, numbers and amounts as in a case file.
 use mathlib.Core.Path.{_≡_, refl, sym, ap, _∙_}
 use mathlib.Core.Bool.{Bool, true, false, not, _&&_}
 use mathlib.Core.List.{List, [], _∷_, _++_}

@@ -1,4 +1,4 @@
--- RULES section 14, figures worked by hand: all that are marked P, the last ones added to those of the crate below, by one computed check over one list; and the lines of the short case.
+-- RULES section 14, figures worked by hand: all that have a P, the last ones added to those of the crate below and computed as one list; and the lines of the short case.
 use mathlib.Core.Path.{_≡_, refl}
 use mathlib.Core.Bool.{true}
 use mathlib.Core.List.{List, [], _∷_, _++_}
