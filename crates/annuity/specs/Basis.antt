@@ -50,7 +50,7 @@ basis rows r i = record { i = i; r = r; P = staying rows r; W = weight rows }
 abbrev pub certain : ℕ → Basis
 certain i = record { i = i; r = 0; P = λ k. 1000000; W = λ k. 0 }
 
--- what the code asks of a row: its rates sum to a million at most, and its weight is not above 100000
+-- what the code asks of a row, of rules 3.3 and 3.5: its rates sum to a million at most, and its weight is not above 100000
 pub record Sound (row : List ℕ) : Type 0 where
   pub rates : getD row 0 0 + getD row 1 0 + getD row 2 0 ≤ 1000000
   pub weight : getD row 3 0 ≤ 100000

@@ -1,4 +1,4 @@
--- The one recursion that every factor is: a start at the end, carried back a year at a time.
+-- The one recursion that every factor of rules 8.4 to 8.8 is: a start at the end, and from there back, year by year.
 use Prim.Native.Nat.{ℕ, zero, suc}
 
 -- what stands at age k, n years before the end: at the end itself `start`, and one year earlier what `year` makes of it

@@ -40,7 +40,7 @@ opposite a = record { upper = negℤ (a .upper); lower = a .lower }
 unfoldable pub size : Fraction → Ratio
 size a = natAbs (a .upper) over a .lower
 
--- a = b: both lower parts are above 0, and the cross products are equal
+-- rule 10.3, a = b: both lower parts are above 0, and the cross products are equal
 pub record _≐_ (a b : Fraction) : Type 0 where
   pub left : 0 < a .lower
   pub right : 0 < b .lower

@@ -35,7 +35,7 @@ inverse a = record { upper = a .lower; lower = a .upper }
 abbrev pub _⊘_ : Ratio → Ratio → Ratio
 a ⊘ b = a ⊗ inverse b
 
--- `a` is a fraction: its lower part is above 0
+-- rule 10.2, `a` is a fraction: its lower part is above 0
 pub record Proper (a : Ratio) : Type 0 where
   pub above : 0 < a .lower
 
@@ -43,13 +43,13 @@ pub record Proper (a : Ratio) : Type 0 where
 pub record Positive (a : Ratio) : Type 0 where
   pub above : 0 < a .upper
 
--- a = b: both are fractions, and the cross products are equal
+-- rule 10.3, a = b: both are fractions, and the cross products are equal
 pub record _≈_ (a b : Ratio) : Type 0 where
   pub left : Proper a
   pub right : Proper b
   pub cross : a .upper * b .lower ≡ b .upper * a .lower
 
--- a ≤ b: both are fractions, and the cross products are in this order
+-- rule 10.3, a ≤ b: both are fractions, and the cross products are in this order
 pub record _≼_ (a b : Ratio) : Type 0 where
   pub left : Proper a
   pub right : Proper b
