@@ -5,11 +5,31 @@
  * equation with the definitions of the rules; it always returns, and does nothing undefined. Nothing checks these
  * declarations against that file, nor what a caller passes.
  *
- * Answers: 0, or the number of a refusal (rule 12.3); its line is the line of the case file, or 0 where it has none.
- *   1 to 4     the file as a whole: too long, cut off, bytes after its end, a wrong count of members
- *   10 to 15   the plan and its table
- *   20 to 27   a member
- *   30         the output is longer than the buffer
+ * Answers: 0, or the number of a refusal (rule 12.3); its line is the line of the case file, or 0 where it has none. What is wrong,
+ * in the words of bin/refusals.tsv:
+ *   the sender of the file mends:
+ *     1   over 65,536 bytes
+ *     2   the file ends where a line, or the rest of one, is due
+ *     3   bytes follow the end line
+ *     4   the end line's number isn't the count of members
+ *   the plan actuary mends:
+ *     10  wrong key, form, word or row age
+ *     11  a number is outside its range
+ *     12  the average doesn't suit the formula
+ *     13  the row's three rates sum to over 1000000
+ *     14  the death rate at age 120 isn't 1000000
+ *     15  the weight is out of range, or below that of the age before
+ *   the payroll office mends:
+ *     20  neither a member nor an end line, or its form is wrong
+ *     21  the id is out of range, or not above the one before
+ *     22  the entry age is below 15, or not below the retirement age
+ *     23  the age is below the entry age, or above the retirement age
+ *     24  the salary is over 1000000.00 a year
+ *     25  the benefit is over 1000000.00 a year
+ *     26  the accrued benefit falls from one age to the next
+ *     27  a member line after 1,000 members
+ *   the calling program mends:
+ *     30  the output lines are longer than the buffer
  *
  * Memory: all of it is the caller's. No pointer is null, not even with a length of 0, and what one of them points to
  * overlaps nothing that another one points to. The library keeps no pointer, allocates nothing and has no state, so

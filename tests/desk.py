@@ -1,0 +1,557 @@
+"""The desk's command bin/value: its standard output, its standard error and its exit status, each held byte by byte.
+
+    python3 tests/desk.py --check
+
+Good and bad input goes to the command as it stands in the repository, over the proved program. What a broken program or
+a changed source does is tried in a copy of the command, where a small script takes the place of rt and another one that
+of the program. The words of the refusals are those of bin/refusals.tsv, in README.md and embed/kuyeshan.h too.
+"""
+import errno
+import os
+import pty
+import re
+import resource
+import shutil
+import signal
+import subprocess
+import sys
+import tempfile
+from pathlib import Path
+
+from case_files import ACCEPTING, filled, many
+from value_oracle import lines
+
+ROOT = Path(__file__).resolve().parent.parent
+COMMAND = ROOT / 'bin' / 'value'
+PROGRAM = ROOT / 'target' / 'bin' / 'value'
+EXAMPLES = ROOT / 'examples'
+TABLE = ROOT / 'bin' / 'refusals.tsv'
+# What the rules list. No file gives 26, since weights never fall, nor 30, since the program's buffer holds all outputs.
+RULES = ACCEPTING | {26, 30}
+SENDER, ACTUARY, PAYROLL = 'the sender of the file', 'the plan actuary', 'the payroll office'
+CR = 'the line ends in CR, byte 13; save the file with line ends LF'
+MARK = 'the file begins with a byte-order mark; save it as plain text without one'
+USAGE = 'usage: value [FILE | DIR | -]..\n'
+NOBODY = 65534
+
+GOOD = (EXAMPLES / 'short.case').read_bytes()
+GOOD_LINES = (EXAMPLES / 'short.lines').read_bytes()
+BAD = GOOD.replace(b'member=7,63,64,0.00', b'member=7,63,64,4125.50.75')
+BAD_SAID = (':115: refused 20, neither a member nor an end line, or its form is wrong: "member=7,63,64,4125.50.75" '
+            '(the payroll office mends it)\n')
+held = []
+
+
+# ---- running and comparing
+
+def run(*names, command=COMMAND, stdin=b'', **more):
+    """Runs the command. What it reads is bytes, or a file or descriptor."""
+    if isinstance(stdin, bytes):
+        more['input'] = stdin
+    else:
+        more['stdin'] = stdin
+    return subprocess.run([command, *names], **{'stdout': subprocess.PIPE, 'stderr': subprocess.PIPE, **more})
+
+
+def with_path(folder):
+    """The environment, where commands are looked for in a folder first."""
+    return {**os.environ, 'PATH': f'{folder}:{os.environ["PATH"]}'}
+
+
+def hold(what, ran, status, out=b'', err=''):
+    for kind, expected, got in (('exit status', status, ran.returncode), ('standard output', out, ran.stdout or b''),
+                                ('standard error', err.encode(), ran.stderr or b'')):
+        if got != expected:
+            sys.exit(f'desk: {what}: {kind}\n{got!r} where it should be\n{expected!r}')
+    held.append(what)
+
+
+def unread(name, number):
+    return f"{name}: can't be read: {os.strerror(number)}\n"
+
+
+def unwritten(number):
+    return f"value: standard output can't be written: {os.strerror(number)}\n"
+
+
+# ---- good input
+
+def check_valued(desk):
+    for example in sorted(EXAMPLES.glob('*.case')):
+        with open(example) as case:
+            plain = subprocess.run([PROGRAM], stdin=case, stdout=subprocess.PIPE, check=True).stdout
+        hold(example.name, run(example), 0, plain)
+    hold('no name', run(stdin=GOOD), 0, GOOD_LINES)
+    hold('the name -', run('-', stdin=GOOD), 0, GOOD_LINES)
+    hold('a file and not standard input', run('good.case', cwd=desk, stdin=BAD), 0, GOOD_LINES)
+    os.mkdir(desk / '-')
+    hold('the name - where a folder has it too', run('-', cwd=desk, stdin=GOOD), 0, GOOD_LINES)
+    os.rmdir(desk / '-')
+
+
+def check_links(desk):
+    (desk / 'link').symlink_to(os.path.relpath(COMMAND, desk))
+    (desk / 'away').mkdir()
+    (desk / 'away' / 'value').symlink_to('../link')
+    hold('a link', run('good.case', command=desk / 'link', cwd=desk), 0, GOOD_LINES)
+    hold('a link to a link', run('../good.case', command='./value', cwd=desk / 'away'), 0, GOOD_LINES)
+    hold('a link on the PATH', run('good.case', command='value', cwd=desk, env=with_path(desk / 'away')), 0, GOOD_LINES)
+
+
+# ---- refusals
+
+def edited(**changed):
+    """The short case with some of its lines replaced: l2='retire=49' is line 2."""
+    made = GOOD.split(b'\n')
+    for place, text in changed.items():
+        made[int(place[1:]) - 1] = text.encode()
+    return b'\n'.join(made)
+
+
+def faults():
+    """A file for each refusal that a file can give, and more of some: the number, the line, who mends it, the file."""
+    yield 1, 0, SENDER, filled(65537)
+    yield 1, 0, SENDER, filled(300000)
+    yield 2, 1, SENDER, b''
+    yield 2, 116, SENDER, GOOD[:-1]
+    yield 2, 116, SENDER, GOOD[:GOOD.index(b'end=')]
+    yield 3, 117, SENDER, GOOD + b'more\n'
+    yield 3, 117, SENDER, filled(65536)
+    yield 4, 116, SENDER, edited(l116='end=2')
+    yield 10, 1, ACTUARY, edited(l1='intrest=1000')
+    yield 10, 3, ACTUARY, edited(l3='')
+    yield 10, 9, ACTUARY, edited(l9='row=16,0,0,0,1000')
+    yield 11, 2, ACTUARY, edited(l2='retire=49')
+    yield 12, 5, ACTUARY, edited(l5='average=1')
+    yield 13, 24, ACTUARY, edited(l24='row=30,400000,300000,300001,1000')
+    yield 14, 114, ACTUARY, edited(l114='row=120,999999,0,0,1100')
+    yield 15, 9, ACTUARY, edited(l9='row=15,0,0,0,999')
+    yield 20, 115, PAYROLL, BAD
+    yield 20, 116, PAYROLL, edited(l116='end=01')
+    yield 21, 115, PAYROLL, edited(l115='member=0,63,64,0.00')
+    yield 22, 115, PAYROLL, edited(l115='member=7,65,65,0.00')
+    yield 23, 115, PAYROLL, edited(l115='member=7,63,66,0.00')
+    yield 24, 115, PAYROLL, edited(l115='member=7,63,64,1000000.01')
+    yield 25, 115, PAYROLL, edited(l3='formula=final', l4='unit=500', l5='average=1', l115='member=7,15,64,1000000.00')
+    yield 27, 1115, PAYROLL, many(1001)
+
+
+def quoted(case, line):
+    """As the message has it. A line of which not one byte is there can't be quoted."""
+    found = case.split(b'\n')
+    text = found[line - 1].decode()
+    if line == len(found) and not text:
+        return ''
+    return f': "{text}"' if len(text) <= 80 else f': "{text[:80]}".. of {len(text)} bytes'
+
+
+def check_refused(desk, table):
+    numbers = set()
+    for number, line, who, case in faults():
+        (desk / 'tried.case').write_bytes(case)
+        where = f':{line}: refused {number}, {table[number][1]}{quoted(case, line)}' if line else (
+            f': refused {number}, {table[number][1]}')
+        said = f'refused={number},{line}\n'.encode()
+        assert lines(case) == said
+        for name, shown, stdin in (('tried.case', 'tried.case', b''), ('-', 'standard input', case)):
+            hold(f'refusal {number} of {shown}', run(name, cwd=desk, stdin=stdin), 1, said,
+                 f'{shown}{where} ({who} mends it)\n')
+        numbers.add(number)
+    if numbers != ACCEPTING:
+        sys.exit(f'desk: the files give the refusals {sorted(numbers)}')
+    hold("the issue's example", run('bad.case', cwd=desk), 1, b'refused=20,115\n', 'bad.case' + BAD_SAID)
+    hold('an input with no end', run('/dev/zero'), 1, b'refused=1,0\n',
+         f'/dev/zero: refused 1, over 65,536 bytes ({SENDER} mends it)\n')
+
+
+def check_hints(table):
+    """Bytes that a program put in on the file's way: the sender is told, and nobody else is blamed."""
+    utf8, utf16 = b'\xef\xbb\xbf', b'\xff\xfe'
+    ended = GOOD.replace(b'\n', b'\r\n')
+    first = 'interest=1000'
+    for what, case, number, line, quote, hint in (
+            ('CR LF', ended, 10, 1, rf'"{first}\r"', CR),
+            ('CR alone', GOOD.replace(b'\n', b'\r'), 2, 1,
+             '"' + GOOD[:80].decode().replace('\n', r'\r') + f'".. of {len(GOOD)} bytes', CR),
+            ('CR LF after a row', edited(l9='row=15,0,0,0,1000\r'), 10, 9, r'"row=15,0,0,0,1000\r"', CR),
+            ('CR LF after a member', edited(l115='member=7,63,64,0.00\r'), 20, 115, r'"member=7,63,64,0.00\r"', CR),
+            ('CR LF at the end', edited(l116='end=1\r'), 20, 116, r'"end=1\r"', CR),
+            ('a byte-order mark', utf8 + GOOD, 10, 1, rf'"\xef\xbb\xbf{first}"', MARK),
+            ('both', utf8 + ended, 10, 1, rf'"\xef\xbb\xbf{first}\r"', f'{CR}; {MARK}'),
+            ('two bytes a letter', utf16 + GOOD.decode().encode('utf-16-le'), 10, 1,
+             r'"\xff\xfe' + ''.join(letter + r'\x00' for letter in first) + '"', MARK)):
+        hold(what, run(stdin=case), 1, f'refused={number},{line}\n'.encode(),
+             f'standard input:{line}: refused {number}, {table[number][1]}: {quote} ({SENDER} mends it: {hint})\n')
+
+
+def check_quotes():
+    """What a terminal would act on is never shown as it is."""
+    begins = 'standard input:115: refused 20, neither a member nor an end line, or its form is wrong: '
+    for text, shown in ((b'\x1b[31m\x00\xff\x7f\t', r'"\x1b[31m\x00\xff\x7f\t"'), (b'say "\\n"', r'"say \"\\n\""'),
+                        (b'm' * 80, '"' + 'm' * 80 + '"'), (b'm' * 81, '"' + 'm' * 80 + '".. of 81 bytes'),
+                        (b'm' * 60000, '"' + 'm' * 80 + '".. of 60000 bytes')):
+        case = GOOD.replace(b'member=7,63,64,0.00', text)
+        hold(f'the line {shown}', run(stdin=case), 1, b'refused=20,115\n', f'{begins}{shown} ({PAYROLL} mends it)\n')
+
+
+# ---- several files, and folders
+
+def headed(*pairs):
+    return b''.join(b'==> %s <==\n%s' % pair for pair in pairs)
+
+
+def check_several(desk):
+    good, bad = (b'good.case', GOOD_LINES), (b'bad.case', b'refused=20,115\n')
+    missing = unread('missing.case', errno.ENOENT)
+    hold('two', run('good.case', 'good.case', cwd=desk), 0, headed(good, good))
+    hold('one refused', run('bad.case', 'good.case', cwd=desk), 1, headed(bad, good), 'bad.case' + BAD_SAID)
+    hold('one missing', run('missing.case', 'good.case', cwd=desk), 2, headed(good), missing)
+    hold('a refusal and one missing', run('bad.case', 'missing.case', 'good.case', cwd=desk), 2, headed(bad, good),
+         'bad.case' + BAD_SAID + missing)
+    hold('- among others', run('good.case', '-', cwd=desk, stdin=GOOD), 0,
+         headed(good, (b'standard input', GOOD_LINES)))
+
+
+def check_names(desk):
+    """No name can end its line, and one that can be shown is written as it is."""
+    for name, shown in ((b'two\nlines.case', rb'two\nlines.case'), (b'byte\xff.case', rb'byte\udcff.case'),
+                        ('Öl.case'.encode(), 'Öl.case'.encode()), (b'==> x <==', b'==> x <==')):
+        (desk / os.fsdecode(name)).write_bytes(GOOD)
+        hold(f'the name {shown}', run(name, 'good.case', cwd=desk), 0,
+             headed((shown, GOOD_LINES), (b'good.case', GOOD_LINES)))
+
+
+def check_folders(desk):
+    folder = desk / 'folder'
+    folder.mkdir()
+    none = "folder: can't be read: there is no file *.case in it\n"
+    hold('an empty folder', run('folder', cwd=desk), 2, b'', none)
+    for name in ('notes.txt', '.hidden.case', 'case'):
+        (folder / name).write_bytes(BAD)
+    (folder / 'inner.case').mkdir()
+    (folder / 'inner.case' / 'deep.case').write_bytes(BAD)
+    hold('a folder with no case file', run('folder', cwd=desk), 2, b'', none)
+    hold('and a file', run('folder', 'good.case', cwd=desk), 2, headed((b'good.case', GOOD_LINES)), none)
+    (folder / 'b.case').write_bytes(GOOD)
+    hold('a folder with one', run('folder', cwd=desk), 0, headed((b'folder/b.case', GOOD_LINES)))
+    (folder / 'a.case').write_bytes(BAD)
+    (folder / 'c.case').symlink_to('nowhere')
+    hold('a folder with three', run('folder/', cwd=desk), 2,
+         headed((b'folder/a.case', b'refused=20,115\n'), (b'folder/b.case', GOOD_LINES)),
+         'folder/a.case' + BAD_SAID + unread('folder/c.case', errno.ENOENT))
+
+
+# ---- what can't be read
+
+def check_unread(desk):
+    hold('a missing file', run('missing.case', cwd=desk), 2, b'', unread('missing.case', errno.ENOENT))
+    hold('a read that fails', run('/proc/self/mem'), 2, b'', unread('/proc/self/mem', errno.EIO))
+    with open('/proc/self/mem', 'rb') as broken:
+        hold('standard input that fails', run(stdin=broken), 2, b'', unread('standard input', errno.EIO))
+    closed = run(stdin=None, preexec_fn=lambda: os.close(0))
+    hold('standard input that is closed', closed, 2, b'', unread('standard input', errno.EBADF))
+    folder = os.open(desk, os.O_RDONLY)
+    hold('standard input that is a folder', run(stdin=folder), 2, b'', unread('standard input', errno.EISDIR))
+    os.close(folder)
+    reading, writing = os.pipe()
+    os.set_blocking(reading, False)
+    # A whole case, which would be valued if the failure counted as its end.
+    os.write(writing, GOOD)
+    hold('a read that fails after a part', run(stdin=reading), 2, b'', unread('standard input', errno.EAGAIN))
+    os.close(reading)
+    os.close(writing)
+
+
+def check_forbidden(copy):
+    """Root may read all: then nobody runs the command."""
+    copy.answers(GOOD_LINES)
+    copy.run(stdin=GOOD)
+    locked = copy.folder / 'locked.case'
+    locked.write_bytes(GOOD)
+    locked.chmod(0)
+    who = dict(user=NOBODY, group=NOBODY, extra_groups=[]) if os.geteuid() == 0 else {}
+    hold('a file that may not be read', copy.run('locked.case', cwd=copy.folder, **who), 2, b'',
+         unread('locked.case', errno.EACCES))
+    locked.unlink()
+
+
+# ---- what can't be written
+
+def check_unwritten(desk):
+    with open('/dev/full', 'wb') as full:
+        hold('a full disk', run('good.case', cwd=desk, stdout=full), 2, b'', unwritten(errno.ENOSPC))
+        hold('a full disk for a refusal', run('bad.case', cwd=desk, stdout=full), 2, b'', unwritten(errno.ENOSPC))
+        hold('a full disk for the help', run('--help', stdout=full), 2, b'', unwritten(errno.ENOSPC))
+        hold('a full disk for the message', run('bad.case', cwd=desk, stderr=full), 2, b'refused=20,115\n')
+    with open(desk / 'out', 'wb') as out:
+        filling = run('good.case', cwd=desk, stdout=out,
+                      preexec_fn=lambda: resource.setrlimit(resource.RLIMIT_FSIZE, (50, 50)))
+    hold('a disk that fills', filling, 2, b'', unwritten(errno.EFBIG))
+    if (desk / 'out').read_bytes() != GOOD_LINES[:50]:
+        sys.exit('desk: the disk that fills was to be written in part')
+    hold('standard output that is closed', run('good.case', cwd=desk, stdout=None, preexec_fn=lambda: os.close(1)), 2,
+         b'', unwritten(errno.EBADF))
+    reading, writing = os.pipe()
+    os.close(reading)
+    hold('a reader that left', run('good.case', 'bad.case', cwd=desk, stdout=writing), 2)
+    os.close(writing)
+
+
+# ---- use
+
+def check_use():
+    helped = run('--help', stdin=b'')
+    if helped.returncode or helped.stderr or not helped.stdout.startswith(USAGE.encode()):
+        sys.exit(f'desk: --help gives {helped}')
+    held.append('--help')
+    hold('-h', run('-h', 'missing.case'), 0, helped.stdout)
+    for name in ('--version', '-x', '--'):
+        hold(f'the option {name}', run(name, stdin=GOOD), 2, b'', f'value: there is no option {name}\n{USAGE}')
+    hold('- twice', run('-', '-', stdin=GOOD), 2, b'', f'value: standard input can be read once\n{USAGE}')
+    ours, terminal = pty.openpty()
+    hold('no name at a terminal', run(stdin=terminal), 2, b'',
+         f'value: nothing is named, and standard input is a terminal\n{USAGE}')
+    os.close(ours)
+    os.close(terminal)
+
+
+# ---- a copy of the command, over stand-ins
+
+BUILDING = 'value: proving and building the program, some minutes the first time ..\n'
+
+
+class Copy:
+    """A repository of the command and one source. In place of rt a script notes its calls, and then does what it is
+    told; the program that it builds answers what it is told."""
+
+    def __init__(self, folder):
+        self.folder, self.repository, self.calls = folder, folder / 'repository', folder / 'calls'
+        self.source, self.program = self.repository / 'crates/value/src/main.rt', self.repository / 'target/bin/value'
+        self.command, self.env = self.repository / 'bin/value', with_path(folder / 'path')
+        for made in (self.source.parent, self.repository / 'bin', folder / 'path'):
+            made.mkdir(parents=True)
+        for name in ('value', 'value.py', 'refusals.tsv'):
+            shutil.copy(ROOT / 'bin' / name, self.repository / 'bin')
+        (self.repository / 'crates.txt').write_text('value:\n')
+        self.source.write_text('fn main() {}\n')
+        self.calls.touch()
+        # nobody has to come to the command.
+        folder.chmod(0o755)
+        self.rt_does('')
+
+    def rt_does(self, more, build='mkdir -p target/bin && cp ../program target/bin/value'):
+        self.script(self.folder / 'path' / 'rt', f'echo "$PWD $*" >> "{self.calls}"\n{build}\n{more}')
+
+    def answers(self, answer, then=''):
+        """The next build's program reads its input and writes these bytes."""
+        (self.folder / 'answer').write_bytes(answer)
+        self.script(self.folder / 'program', f'cat > /dev/null\ncat "{self.folder / "answer"}"\n{then}')
+
+    @staticmethod
+    def script(path, body):
+        path.write_text(f'#!/bin/sh\n{body}\n')
+        path.chmod(0o755)
+
+    def run(self, *names, **more):
+        return run(*names, **{'command': self.command, 'env': self.env, **more})
+
+    def hold_calls(self, what, count):
+        """So many calls since the last time, each the one that builds the program."""
+        if self.calls.read_text() != f'{self.repository} check value\n' * count:
+            sys.exit(f'desk: {what}: rt is called\n{self.calls.read_text()}and should be {count} times')
+        self.calls.write_text('')
+
+
+def check_rebuilt(copy):
+    def hold_built(what, count):
+        hold(what, copy.run(stdin=GOOD), 0, GOOD_LINES, BUILDING * count)
+        copy.hold_calls(what, count)
+
+    copy.answers(GOOD_LINES)
+    missing = copy.run('missing.case')
+    hold('a missing file, with nothing built', missing, 2, b'', unread('missing.case', errno.ENOENT))
+    copy.hold_calls('a missing file, with nothing built', 0)
+    hold_built('nothing is built', 1)
+    hold_built('all is built', 0)
+    copy.source.write_text('fn main() { }\n')
+    hold_built('a source changed', 1)
+    hold_built('and is built', 0)
+    os.utime(copy.source, (0, 0))
+    hold_built('a source of another time', 0)
+    copy.source.write_text('fn main() {  }\n')
+    os.utime(copy.source, (0, 0))
+    hold_built('a source that changed at no later time', 1)
+    (copy.source.parent / 'more.rt').write_text('')
+    hold_built('a new source', 1)
+    (copy.source.parent / 'more.rt').rename(copy.source.parent / 'other.rt')
+    hold_built('a source of another name', 1)
+    (copy.source.parent / 'other.rt').unlink()
+    hold_built('a source that is gone', 1)
+    (copy.repository / 'crates.txt').write_text('value: io\n')
+    hold_built('crates.txt changed', 1)
+    copy.program.write_text('another one, built from other sources since\n')
+    hold_built('another program', 1)
+    copy.program.unlink()
+    hold_built('the program is gone', 1)
+    shutil.rmtree(copy.repository / 'target')
+    hold_built('target/ is gone', 1)
+    hold_built('and is built again', 0)
+
+
+def check_edit_meanwhile(copy):
+    """What is edited while rt runs isn't proved: the next command has rt look again."""
+    copy.source.write_text('fn main() { 1; }\n')
+    copy.rt_does('echo "fn main() { 2; }" > crates/value/src/main.rt')
+    hold('an edit while it is proved', copy.run(stdin=GOOD), 0, GOOD_LINES, BUILDING)
+    copy.rt_does('')
+    hold('after that edit', copy.run(stdin=GOOD), 0, GOOD_LINES, BUILDING)
+    copy.hold_calls('an edit while it is proved', 2)
+
+
+def check_at_once(copy):
+    """One builds, and the others wait for it."""
+    copy.rt_does('sleep 1')
+    copy.source.write_text('fn main() { 3; }\n')
+    (copy.folder / 'good.case').write_bytes(GOOD)
+    started = [subprocess.Popen([copy.command, copy.folder / 'good.case'], env=copy.env, stdout=subprocess.PIPE,
+                                stderr=subprocess.DEVNULL) for _ in range(3)]
+    for one in started:
+        out, _ = one.communicate()
+        hold('three commands at once', subprocess.CompletedProcess(one.args, one.returncode, out), 0, GOOD_LINES)
+    copy.hold_calls('three commands at once', 1)
+    copy.rt_does('')
+
+
+def check_not_built(copy):
+    copy.source.write_text('fn main() { 4; }\n')
+    copy.rt_does('echo not proved; echo at all >&2; exit 1', build='')
+    for again in ('not proved', 'not proved, once more'):
+        hold(again, copy.run('-', 'missing.case', stdin=GOOD), 2, b'',
+             BUILDING + 'not proved\nat all\nvalue: the program is not proved and built: rt check value failed\n')
+    copy.hold_calls('not proved', 2)
+    copy.rt_does('', build='rm -rf target/bin')
+    hold('proved, and no program', copy.run(stdin=GOOD), 2, b'',
+         f'{BUILDING}value: rt counts the program as built, but it is gone: remove the folder target/ and run this again\n')
+    copy.hold_calls('proved, and no program', 1)
+    bare = copy.folder / 'bare'
+    bare.mkdir()
+    hold('no python3', copy.run(stdin=GOOD, env={'PATH': str(bare)}), 2, b'', 'value: python3 is not on the PATH\n')
+    for name in ('python3', 'readlink', 'dirname'):
+        (bare / name).symlink_to(shutil.which(name))
+    hold('no rt', copy.run(stdin=GOOD, env={'PATH': str(bare)}), 2, b'', 'value: the program has to be proved and '
+         "built, and the Rattle toolchain's command rt is not on the PATH\n")
+    copy.rt_does('')
+
+
+def check_broken_program(copy, table):
+    """An answer that isn't whole is never handed on."""
+    def hold_answer(what, answer, status, out, err, then=''):
+        copy.answers(answer, then)
+        copy.program.unlink(missing_ok=True)
+        hold(what, copy.run(stdin=GOOD), status, out, BUILDING + err)
+
+    broken = "standard input: the program failed: what it wrote isn't whole, and is left out\n"
+    for answer in (b'', b'\n', GOOD_LINES[:-1], GOOD_LINES[:-7], GOOD_LINES[:GOOD_LINES.index(b'supplemental')],
+                   b'member=7,200.00', b'refused=20,115', b'refused=20\n', b'refused=99,1\n',
+                   b'refused=20,115\nmore\n'):
+        hold_answer(f'the answer {answer}', answer, 2, b'', broken)
+    hold_answer('a program that fails', GOOD_LINES, 2, b'', broken, 'exit 1')
+    hold_answer('a program that is killed', GOOD_LINES, 2, b'', broken, f'kill -{int(signal.SIGKILL)} $$')
+    for number, line in ((26, 115), (30, 0)):
+        who, what = table[number]
+        where = f':{line}' if line else ''
+        quote = ': "member=7,63,64,0.00"' if line else ''
+        answer = f'refused={number},{line}\n'.encode()
+        hold_answer(f'refusal {number}', answer, 1, answer,
+                    f'standard input{where}: refused {number}, {what}{quote} ({who} mends it)\n')
+    copy.program.chmod(0o644)
+    hold('a program that may not be run', copy.run(stdin=GOOD), 2, b'',
+         f"standard input: the program can't be run: {os.strerror(errno.EACCES)}\n")
+    copy.program.chmod(0o755)
+    table_file = copy.repository / 'bin' / 'refusals.tsv'
+    table_file.unlink()
+    hold('no words', copy.run(stdin=GOOD), 2, b'', "value: the words of the refusals can't be read: "
+         f"[Errno {errno.ENOENT}] {os.strerror(errno.ENOENT)}: '{table_file}'\n")
+
+
+# ---- the words
+
+def words():
+    """By number, who mends it and what is wrong; in the order of the table."""
+    first, *rest = [line.split('\t') for line in TABLE.read_text().splitlines()]
+    if first != ['number', 'who mends it', 'what is wrong'] or sorted(rest, key=lambda line: int(line[0])) != rest:
+        sys.exit(f'desk: {TABLE.name} is out of order')
+    table = {int(number): (who, what) for number, who, what in rest}
+    if len(table) != len(rest) or set(table) != RULES:
+        sys.exit(f'desk: {TABLE.name} has the refusals {[line[0] for line in rest]}')
+    return table
+
+
+def said_in_readme():
+    """The rows of its table. One without a name has that of the row above."""
+    part = (ROOT / 'README.md').read_text().split('## When a file is refused\n')[1].split('\n## ')[0]
+    who = ''
+    for named, number, what in re.findall(r'^\| (.*?) ?\| ([0-9]+) \| (.*) \|$', part, re.MULTILINE):
+        who = named or who
+        yield int(number), (who, what)
+
+
+def said_in_header():
+    """A line that ends in `mends:`, and after it the numbers that this one can mend."""
+    who = ''
+    for line in (ROOT / 'embed' / 'kuyeshan.h').read_text().split('*/')[0].splitlines():
+        if named := re.fullmatch(r' \*   (the .*) mends:', line):
+            who = named[1]
+        elif found := re.fullmatch(r' \*     ([0-9]+) +(.*)', line):
+            yield int(found[1]), (who, found[2])
+
+
+def check_words(table):
+    if f'june.case{BAD_SAID}' not in (ROOT / 'README.md').read_text():
+        sys.exit("desk: README.md's example isn't what the command says")
+    for place, said in (('README.md', said_in_readme()), ('embed/kuyeshan.h', said_in_header())):
+        said = list(said)
+        for found, expected in zip(said, table.items()):
+            if found != expected:
+                sys.exit(f'desk: {place} says {found}, and {TABLE.name} {expected}')
+        if len(said) != len(table):
+            sys.exit(f'desk: {place} has the words of {len(said)} refusals, and {TABLE.name} of {len(table)}')
+
+
+def check():
+    table = words()
+    check_words(table)
+    with tempfile.TemporaryDirectory() as made:
+        desk, folder = Path(made).resolve() / 'desk', Path(made).resolve() / 'copy'
+        for one in (desk, folder):
+            one.mkdir()
+        os.chmod(made, 0o755)
+        (desk / 'good.case').write_bytes(GOOD)
+        (desk / 'bad.case').write_bytes(BAD)
+        # The gate builds the program by itself: the first command then has rt look at it once, and says so.
+        run(desk / 'good.case')
+        check_valued(desk)
+        check_links(desk)
+        check_refused(desk, table)
+        check_hints(table)
+        check_quotes()
+        check_several(desk)
+        check_names(desk)
+        check_folders(desk)
+        check_unread(desk)
+        check_unwritten(desk)
+        check_use()
+        copy = Copy(folder)
+        check_rebuilt(copy)
+        check_edit_meanwhile(copy)
+        check_at_once(copy)
+        check_not_built(copy)
+        check_forbidden(copy)
+        check_broken_program(copy, table)
+    print(f'desk: {len(held)} uses of the command hold; {len(table)} refusals have the same words in each place')
+
+
+if __name__ == '__main__':
+    if sys.argv[1:] != ['--check']:
+        sys.exit(__doc__)
+    check()
