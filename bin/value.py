@@ -122,7 +122,7 @@ def build():
         say(run.stdout.decode(errors='backslashreplace').rstrip('\n'))
         stop('the program is not proved and built: rt check value failed')
     if not PROGRAM.exists():
-        stop('rt counts the program as built, but it is gone: remove the folder target/ and run this again')
+        stop('rt counts the program as built, but it is gone: remove the folder target/ and try again')
     STAMP.write_bytes(stamp(sources))
 
 

@@ -235,9 +235,10 @@ def check_folders(desk):
     (folder / 'b.case').write_bytes(GOOD)
     hold('a folder with one', run('folder', cwd=desk), 0, headed((b'folder/b.case', GOOD_LINES)))
     (folder / 'a.case').write_bytes(BAD)
+    both = headed((b'folder/a.case', b'refused=20,115\n'), (b'folder/b.case', GOOD_LINES))
+    hold('a folder with two', run('folder', cwd=desk), 1, both, 'folder/a.case' + BAD_SAID)
     (folder / 'c.case').symlink_to('nowhere')
-    hold('a folder with three', run('folder/', cwd=desk), 2,
-         headed((b'folder/a.case', b'refused=20,115\n'), (b'folder/b.case', GOOD_LINES)),
+    hold('a folder with three', run('folder/', cwd=desk), 2, both,
          'folder/a.case' + BAD_SAID + unread('folder/c.case', errno.ENOENT))
 
 
@@ -309,7 +310,7 @@ def check_use():
         hold(f'the option {name}', run(name, stdin=GOOD), 2, b'', f'value: there is no option {name}\n{USAGE}')
     hold('- twice', run('-', '-', stdin=GOOD), 2, b'', f'value: standard input can be read once\n{USAGE}')
     ours, terminal = pty.openpty()
-    hold('no name at a terminal', run(stdin=terminal), 2, b'',
+    hold('no name at a terminal', run(stdin=terminal, timeout=60), 2, b'',
          f'value: nothing is named, and standard input is a terminal\n{USAGE}')
     os.close(ours)
     os.close(terminal)
@@ -431,7 +432,7 @@ def check_not_built(copy):
     copy.hold_calls('not proved', 2)
     copy.rt_does('', build='rm -rf target/bin')
     hold('proved, and no program', copy.run(stdin=GOOD), 2, b'',
-         f'{BUILDING}value: rt counts the program as built, but it is gone: remove the folder target/ and run this again\n')
+         f'{BUILDING}value: rt counts the program as built, but it is gone: remove the folder target/ and try again\n')
     copy.hold_calls('proved, and no program', 1)
     bare = copy.folder / 'bare'
     bare.mkdir()
@@ -453,7 +454,7 @@ def check_broken_program(copy, table):
     broken = "standard input: the program failed: what it wrote isn't whole, and is left out\n"
     for answer in (b'', b'\n', GOOD_LINES[:-1], GOOD_LINES[:-7], GOOD_LINES[:GOOD_LINES.index(b'supplemental')],
                    b'member=7,200.00', b'refused=20,115', b'refused=20\n', b'refused=99,1\n',
-                   b'refused=20,115\nmore\n'):
+                   b'refused=20,115\nmore\n', GOOD_LINES + b'more'):
         hold_answer(f'the answer {answer}', answer, 2, b'', broken)
     hold_answer('a program that fails', GOOD_LINES, 2, b'', broken, 'exit 1')
     hold_answer('a program that is killed', GOOD_LINES, 2, b'', broken, f'kill -{int(signal.SIGKILL)} $$')
