@@ -92,7 +92,8 @@ def digest_of_sources():
     digest = hashlib.sha256()
     folders = sorted(os.walk(ROOT / 'crates'))
     paths = [os.path.join(folder, file) for folder, _, files in folders for file in sorted(files)]
-    for path in (ROOT / 'crates.txt', *paths):
+    # An editor may lock a file by a link to nowhere, which is none.
+    for path in (ROOT / 'crates.txt', *filter(os.path.isfile, paths)):
         with open(path, 'rb') as file:
             content = file.read()
         digest.update(f'{os.path.relpath(path, ROOT)}\n{len(content)}\n'.encode(errors='surrogateescape'))

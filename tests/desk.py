@@ -382,6 +382,8 @@ def check_rebuilt(copy):
     copy.source.write_text('fn main() {  }\n')
     os.utime(copy.source, (0, 0))
     hold_built('a source that changed at no later time', 1)
+    (copy.source.parent / '.#main.rt').symlink_to('nowhere')
+    hold_built("an editor's lock", 0)
     (copy.source.parent / 'more.rt').write_text('')
     hold_built('a new source', 1)
     (copy.source.parent / 'more.rt').rename(copy.source.parent / 'other.rt')
