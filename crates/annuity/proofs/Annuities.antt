@@ -38,10 +38,6 @@ module _ (b : Basis) where
   unfolding carried
   annuity-least w start k n = omega arith
 
-  pub annuity*-least : (w : ℕ → ℕ) {start : Ratio} → Proper start → (k n : ℕ) → whole (w k) ≼ carried (paying* w) start k (suc n)
-  unfolding carried
-  annuity*-least w h k n = ≼-⊕ (whole-proper (w k)) (step*-proper k (annuity-proper w h (suc k) n))
-
   pub annuity-positive : (w : ℕ → ℕ) {start : Ratio} → Proper start → (k n : ℕ) → 0 < w k → Positive (carried (paying* w) start k (suc n))
   unfolding carried
   annuity-positive w h k n some = ⊕-positive (whole-positive some) (step*-proper k (annuity-proper w h (suc k) n))

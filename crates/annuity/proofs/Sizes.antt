@@ -1,7 +1,7 @@
 -- How large the factors are, rounded and exact: at most so many payments, and no less for a later end. Every exact lower is above 0.
 use mathlib.Core.Path.{_≡_}
 use Prim.Native.Nat.{ℕ, suc, _+_, _-_, _*_, _≤_, _<_}
-use native.Mathlib.Nat.{le-refl, mul-le-mul-right}
+use native.Mathlib.Nat.{le-refl}
 use native.Mathlib.Omega.{arith}
 use Rattle.fractions.specs.Ratio.{whole, Proper, Positive, _≼_}
 use Rattle.fractions.proofs.RatioLaws.{whole-proper}
@@ -9,7 +9,7 @@ use Rattle.fractions.proofs.OrderLaws.{_∙≼_, whole-≼}
 use Rattle.annuity.specs.Basis.{Basis, Fair, certain}
 use Rattle.annuity.specs.Factors.{S, A, A*, pension, pension*, G, G*, T, T*, Z, Z*, v, C, C*}
 use Rattle.annuity.proofs.Bases.{certain-fair}
-use Rattle.annuity.proofs.Annuities.{deferred-proper, annuity-proper, annuity-least, annuity*-least, annuity-positive, annuity-most, annuity*-most, deferred-most, deferred*-most, annuity-longer, annuity*-longer}
+use Rattle.annuity.proofs.Annuities.{deferred-proper, annuity-proper, annuity-least, annuity-positive, annuity-most, annuity*-most, deferred-most, deferred*-most, annuity-longer, annuity*-longer}
 
 module _ (b : Basis) where
   -- ---- every exact lower is above 0
@@ -58,12 +58,6 @@ module _ (b : Basis) where
   Z*-positive k e h some =
       let years : e - k ≡ suc (e - k - 1) = omega arith in
       rw years (annuity-positive b (λ j. b .W j * S) (whole-proper 0) k (e - k - 1) (omega arith))
-
-  pub Z*-least : (k e : ℕ) → k < e → whole (b .W k * S) ≼ Z* b k e
-  unfolding Z*
-  Z*-least k e h =
-      let years : e - k ≡ suc (e - k - 1) = omega arith in
-      rw years (annuity*-least b (λ j. b .W j * S) (whole-proper 0) k (e - k - 1))
 
   -- ---- a later end gives no less
   pub T*-longer : (k x r : ℕ) → k ≤ x → x ≤ r → T* b k x ≼ T* b k r
@@ -121,24 +115,6 @@ module _ (b : Basis) where
     unfolding T
     T-most k e =
         omega (arith, annuity-most b fair (λ j. S) S 0 0 k (e - k) (omega arith) (λ j from to. le-refl S))
-
-    pub T*-most : (k e : ℕ) → T* b k e ≼ whole ((e - k) * S)
-    unfolding T*
-    T*-most k e =
-        annuity*-most b fair (λ j. S) S (whole 0) 0 k (e - k) (whole-≼ (omega arith)) (λ j from to. le-refl S)
-        ∙≼ whole-≼ (omega arith)
-
-    pub Z-most : (w k e : ℕ) → ((j : ℕ) → k ≤ j → j < e → b .W j ≤ w) → Z b k e ≤ (e - k) * (w * S)
-    unfolding Z
-    Z-most w k e weights =
-        omega (arith, annuity-most b fair (λ j. b .W j * S) (w * S) 0 0 k (e - k) (omega arith) (λ j from to. mul-le-mul-right S (weights j from (omega arith))))
-
-    pub Z*-most : (w k e : ℕ) → ((j : ℕ) → k ≤ j → j < e → b .W j ≤ w) → Z* b k e ≼ whole ((e - k) * (w * S))
-    unfolding Z*
-    Z*-most w k e weights =
-        annuity*-most b fair (λ j. b .W j * S) (w * S) (whole 0) 0 k (e - k) (whole-≼ (omega arith))
-        (λ j from to. mul-le-mul-right S (weights j from (omega arith)))
-        ∙≼ whole-≼ (omega arith)
 
 -- ---- C
 pub C-most : (i m : ℕ) → C i m ≤ m * S

@@ -71,7 +71,7 @@ fn amount_of(row: [u32; 4], amount: Amount) -> u64
 }
 
 // Rule 8.9: the factor of each age up to `top`, filled downward from `start` there.
-pub fn fill(
+fn fill(
     rows: [[u32; 4]; 106],
     r: usize,
     i: u64,

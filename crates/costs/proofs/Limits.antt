@@ -2,7 +2,7 @@
 use mathlib.Core.Path.{_≡_}
 use mathlib.Core.Bool.{Bool, true, false, cond}
 use Prim.Native.Nat.{ℕ, zero, suc, _+_, _-_, _*_, _≤_, _<_}
-use native.Mathlib.Nat.{le-refl, zero-add, add-zero, mul-comm, mul-one, mul-assoc, mul-pos, mul-le-mul-left, mul-le-mul-right}
+use native.Mathlib.Nat.{le-refl, add-zero, mul-comm, mul-one, mul-assoc, mul-pos, mul-le-mul-left, mul-le-mul-right}
 use native.Mathlib.Omega.{arith}
 use lib.Dec.{T as Yes, ltb, ltb→lt}
 use Rattle.rounding.specs.Nearest.{nearest}

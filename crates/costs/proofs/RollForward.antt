@@ -3,7 +3,7 @@
 -- Nothing divides by staying, which may be 0.
 use mathlib.Core.Path.{_≡_, refl, sym}
 use mathlib.Core.Bool.{Bool, true, false, cond}
-use Prim.Native.Nat.{ℕ, zero, suc, _+_, _-_, _*_, _≤_, _<_}
+use Prim.Native.Nat.{ℕ, suc, _+_, _-_, _*_, _≤_, _<_}
 use native.Mathlib.Omega.{arith}
 use lib.Dec.{T as Yes, ltb, lt→ltb}
 use Rattle.fractions.specs.Ratio.{Ratio, whole, _⊕_, _⊗_, _⊘_, Proper, Positive, _≈_}

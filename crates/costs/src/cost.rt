@@ -16,7 +16,7 @@ ghost use Rattle.costs.specs.Costs.{N};
 ghost use Rattle.costs.specs.Costs.{cost as Costs·cost};
 
 // N by any method: 0 from r on (rule 9.7).
-pub fn normal_cost(
+pub(crate) fn normal_cost(
     p: Plan,
     rows: &[[u32; 4]; 106],
     m: Member,

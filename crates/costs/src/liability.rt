@@ -15,7 +15,7 @@ ghost use Rattle.costs.specs.Valuation.{Ready, caseOf};
 ghost use Rattle.costs.specs.Costs.{L};
 
 // L by any method.
-pub fn liability(
+pub(crate) fn liability(
     p: Plan,
     rows: &[[u32; 4]; 106],
     m: Member,

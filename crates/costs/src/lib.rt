@@ -3,9 +3,9 @@
 // statements about them, the equal forms of the liability and the limits; specs/Valuation.antt the answer for plain
 // values. cost.rt works N, liability.rt L, method by method, and parts.rt what they share. `value_member` is the entry:
 // it has no `requires`, and its contract is the figures' equation and the limits on its N and L.
-pub mod cost;
-pub mod liability;
-pub mod parts;
+mod cost;
+mod liability;
+mod parts;
 
 use plan::Member;
 use plan::Method;
@@ -54,7 +54,7 @@ pub fn figures_of(p: Plan, rows: [[u32; 4]; 106], m: Member, benefits: [u64; 106
 }
 
 // Rule 9.9: the figures of an accepted member at any age of its own, by any method.
-pub fn figures_at(
+fn figures_at(
     p: Plan,
     rows: [[u32; 4]; 106],
     m: Member,

@@ -11,7 +11,7 @@ ghost use Rattle.costs.specs.Valuation.{Ready, caseOf, planBasis};
 ghost use Rattle.costs.specs.Costs.{PV};
 
 // What an array of the ages holds for age k.
-pub fn of_age(a: &[u64; 106], k: usize) -> u64
+pub(crate) fn of_age(a: &[u64; 106], k: usize) -> u64
     requires { ⌜ (15 ≤ k) × (k ≤ 120) ⌝ }
     ensures { λ r. ⌜ r ≡ getD (now (a .entry)) (k - 15) 0 ⌝ }
 {
@@ -19,7 +19,7 @@ pub fn of_age(a: &[u64; 106], k: usize) -> u64
 }
 
 // benefit * deferred / S: what a benefit from r on is worth at the age of the factor.
-pub fn worth(benefit: u64, deferred: u64) -> u64
+pub(crate) fn worth(benefit: u64, deferred: u64) -> u64
     requires { ⌜ (benefit ≤ 100000000) × (deferred ≤ 71 * S) ⌝ }
     ensures { λ r. ⌜ r ≡ nearest (benefit * deferred) S ⌝ }
 {
@@ -27,7 +27,7 @@ pub fn worth(benefit: u64, deferred: u64) -> u64
 }
 
 // value * part / whole.
-pub fn share(value: u64, part: u64, whole: u64) -> u64
+pub(crate) fn share(value: u64, part: u64, whole: u64) -> u64
     requires { ⌜ (0 < whole) × (part ≤ whole) ⌝ }
     ensures { λ r. ⌜ r ≡ nearest (value * part) whole ⌝ }
 {
@@ -35,7 +35,7 @@ pub fn share(value: u64, part: u64, whole: u64) -> u64
 }
 
 // Rule 9.1: V(k).
-pub fn present_value(
+pub(crate) fn present_value(
     p: Plan,
     rows: &[[u32; 4]; 106],
     m: Member,
@@ -51,7 +51,7 @@ pub fn present_value(
 }
 
 // T(y,e), for an age e of the member.
-pub fn working_from_entry(p: Plan, rows: &[[u32; 4]; 106], m: Member, e: usize) -> u64
+pub(crate) fn working_from_entry(p: Plan, rows: &[[u32; 4]; 106], m: Member, e: usize) -> u64
     requires { ⌜ AcceptedMember p (now rows) m × (m .entry ≤ e) × (e ≤ p .retire) ⌝ }
     ensures { λ r. ⌜ r ≡ T (planBasis p (now (rows .entry))) (m .entry) e ⌝ }
 {
@@ -60,7 +60,7 @@ pub fn working_from_entry(p: Plan, rows: &[[u32; 4]; 106], m: Member, e: usize) 
 }
 
 // Z(y,e), for an age e of the member.
-pub fn pay_from_entry(p: Plan, rows: &[[u32; 4]; 106], m: Member, e: usize) -> u64
+pub(crate) fn pay_from_entry(p: Plan, rows: &[[u32; 4]; 106], m: Member, e: usize) -> u64
     requires { ⌜ AcceptedMember p (now rows) m × (m .entry ≤ e) × (e ≤ p .retire) ⌝ }
     ensures { λ r. ⌜ r ≡ Z (planBasis p (now (rows .entry))) (m .entry) e ⌝ }
 {

@@ -55,10 +55,6 @@ unfolding _⊗_
           );
     }
 
-pub inverse-cong : {a b : Ratio} → Positive a → Positive b → a ≈ b → inverse a ≈ inverse b
-unfolding inverse
-inverse-cong ha hb e = omega arith
-
 -- ---- equations by cross products
 pub zero-⊗ : {a : Ratio} → Proper a → whole 0 ⊗ a ≈ whole 0
 unfolding _⊗_ whole _over_

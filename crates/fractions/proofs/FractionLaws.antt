@@ -1,20 +1,17 @@
 -- The laws of fractions of any sign: `≐`, what one part leaves of a sum, and signs and sizes through the operations.
 use mathlib.Core.Path.{_≡_, refl, sym, ap}
-use Prim.Native.Nat.{ℕ, zero, suc, _+_, _*_, _<_}
+use Prim.Native.Nat.{ℕ, _+_, _*_}
 use native.Mathlib.Omega.{arith}
 use native.Mathlib.Nat.{mul-pos, eq-of-mul-eq-mul-right}
-use lib.IntN.{ℤ, pos, negsuc, negℤ, natAbs, _*ℤ_}
+use lib.IntN.{ℤ, pos, negℤ, _*ℤ_}
 use Rattle.fractions.specs.Ratio.{Ratio, _over_, whole, _⊕_, _⊗_, Proper, _≈_}
-use Rattle.fractions.specs.Fraction.{Fraction, fraction, integer, _⊖_, _⊙_, opposite, size, _≐_}
+use Rattle.fractions.specs.Fraction.{Fraction, fraction, integer, _⊖_, _⊙_, opposite, _≐_}
 use Rattle.fractions.proofs.Difference.{Difference, pos-part, neg-part, of-itself, of-pos, of-neg, of-less, of-times, equal, sums-equal}
 
 -- ---- equal fractions
 pub ≐-of : {a b : Ratio} → a ≈ b → fraction a ≐ fraction b
 unfolding fraction
 ≐-of e = record { left = e .left .above; right = e .right .above; cross = ap pos (omega arith) }
-
-pub ≐-refl : {a : Fraction} → 0 < a .lower → a ≐ a
-≐-refl h = record { left = h; right = h; cross = refl }
 
 pub ≐-sym : {a b : Fraction} → a ≐ b → b ≐ a
 ≐-sym e = record { left = e .right; right = e .left; cross = sym (e .cross) }
@@ -79,16 +76,3 @@ negℤ-times z n =
 pub opposite-⊙ : (a : Fraction) (b : Ratio) → opposite a ⊙ b ≡ opposite (a ⊙ b)
 unfolding opposite _⊙_
 opposite-⊙ a b = rw negℤ-times
-
-pub size-fraction : (a : Ratio) → size (fraction a) ≡ a
-unfolding size fraction _over_
-size-fraction a = refl
-
-natAbs-negℤ : (z : ℤ) → natAbs (negℤ z) ≡ natAbs z
-natAbs-negℤ (pos zero) = refl
-natAbs-negℤ (pos (suc n)) = refl
-natAbs-negℤ (negsuc n) = refl
-
-pub size-opposite : (a : Fraction) → size (opposite a) ≡ size a
-unfolding size opposite
-size-opposite a = rw natAbs-negℤ

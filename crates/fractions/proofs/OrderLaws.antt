@@ -1,8 +1,8 @@
 -- The laws of `≼`: an order, kept by sums and products and turned round by inverses.
 use Prim.Native.Nat.{ℕ, _*_, _≤_, _<_}
 use native.Mathlib.Omega.{arith}
-use native.Mathlib.Nat.{mul-pos, mul-le-mul-right, le-of-mul-le-mul-right}
-use Rattle.fractions.specs.Ratio.{Ratio, _over_, whole, _⊕_, _⊗_, inverse, Proper, Positive, _≈_, _≼_}
+use native.Mathlib.Nat.{mul-le-mul-right, le-of-mul-le-mul-right}
+use Rattle.fractions.specs.Ratio.{Ratio, _over_, whole, _⊕_, _⊗_, Proper, _≈_, _≼_}
 use Rattle.fractions.proofs.RatioLaws.{⊕-proper, ⊗-proper}
 
 pub zero-≼ : {a : Ratio} → Proper a → whole 0 ≼ a
@@ -14,9 +14,6 @@ pub ≼-refl : {a : Ratio} → Proper a → a ≼ a
 
 pub ≼-of : {a b : Ratio} → a ≈ b → a ≼ b
 ≼-of e = omega arith
-
-pub ≼-antisym : {a b : Ratio} → a ≼ b → b ≼ a → a ≈ b
-≼-antisym e f = omega arith
 
 infixr 30 _∙≼_
 pub _∙≼_ : {a b c : Ratio} → a ≼ b → b ≼ c → a ≼ c
@@ -59,22 +56,9 @@ unfolding _⊗_
           );
     }
 
-pub inverse-anti : {a b : Ratio} → Positive a → Positive b → a ≼ b → inverse b ≼ inverse a
-unfolding inverse
-inverse-anti ha hb e = omega arith
-
 pub ≼-⊕ : {a b : Ratio} → Proper a → Proper b → a ≼ a ⊕ b
 unfolding _⊕_
 ≼-⊕ ha hb = record { left = ha; right = ⊕-proper ha hb; cross = omega arith }
-
-pub ≼-cancel : {a b c : Ratio} → Proper a → Proper b → Proper c → Positive c → a ⊗ c ≼ b ⊗ c → a ≼ b
-unfolding _⊗_
-≼-cancel {a} {b} {c} ha hb hc k e =
-    record {
-      left = ha;
-      right = hb;
-      cross = le-of-mul-le-mul-right {k = c .upper * c .lower} (omega arith) (mul-pos (k .above) (hc .above));
-    }
 
 -- ---- whole numbers
 pub over-≼ : (m n : ℕ) {d e : ℕ} → 0 < d → 0 < e → m * e ≤ n * d → m over d ≼ n over e
@@ -84,7 +68,3 @@ over-≼ m n hd he h = omega arith
 pub whole-≼ : {m n : ℕ} → m ≤ n → whole m ≼ whole n
 unfolding whole _over_
 whole-≼ h = omega arith
-
-pub ≼-whole : {m n : ℕ} → whole m ≼ whole n → m ≤ n
-unfolding whole _over_
-≼-whole e = omega arith

@@ -13,7 +13,7 @@ ghost use Rattle.plan.specs.Benefit.{formulaOf, B};
 ghost use Rattle.plan.specs.Acceptance.{planRefusal, Placed, Accrued, Sums};
 
 // The weights of the ages before each age, summed from 15 on.
-pub fn summed_weights(rows: [[u32; 4]; 106]) -> [u64; 106]
+fn summed_weights(rows: [[u32; 4]; 106]) -> [u64; 106]
     requires { ⌜ Table rows ⌝ }
     ensures { λ a. ⌜ Sums rows a ⌝ }
 {

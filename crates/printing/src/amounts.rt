@@ -10,7 +10,7 @@ ghost use Rattle.rounding.specs.Signed.{integer};
 ghost use Rattle.printing.specs.Amounts.{digits, width as Amounts·width, whole, amount, signedAmount};
 
 // How many digits n has.
-pub fn width(n: u64) -> usize
+pub(crate) fn width(n: u64) -> usize
     ensures { λ r. ⌜ r ≡ Amounts·width n ⌝ }
 {
     let mut w = 1;
@@ -44,7 +44,7 @@ fn write_digits(out: &mut [u8], at: usize, w: usize, n: u64)
 }
 
 // Writes a text as it stands.
-pub fn write_text(out: &mut [u8], at: usize, text: &[u8]) -> usize
+pub(crate) fn write_text(out: &mut [u8], at: usize, text: &[u8]) -> usize
     requires { ⌜ at + length (now text) ≤ length (now out) ⌝ }
     ensures { λ r. ⌜ r ≡ at + length (now (text .entry)) ⌝ }
     ensures { λ _. ⌜ now (out .exit) ≡ sets (now (out .entry)) at (now (text .entry)) ⌝ }
@@ -58,7 +58,7 @@ pub fn write_text(out: &mut [u8], at: usize, text: &[u8]) -> usize
 }
 
 // Writes a whole number.
-pub fn write_whole(out: &mut [u8], at: usize, n: u64) -> usize
+pub(crate) fn write_whole(out: &mut [u8], at: usize, n: u64) -> usize
     requires { ⌜ at + length (whole n) ≤ length (now out) ⌝ }
     ensures { λ r. ⌜ r ≡ at + length (whole n) ⌝ }
     ensures { λ _. ⌜ now (out .exit) ≡ sets (now (out .entry)) at (whole n) ⌝ }
@@ -69,7 +69,7 @@ pub fn write_whole(out: &mut [u8], at: usize, n: u64) -> usize
 }
 
 // How many bytes an amount takes.
-pub fn amount_width(cents: u64) -> usize
+pub(crate) fn amount_width(cents: u64) -> usize
     ensures { λ r. ⌜ r ≡ length (amount cents) ⌝ }
 {
     width(cents / 100) + 3
@@ -88,7 +88,7 @@ fn write_amount(out: &mut [u8], cents: u64) -> usize
 }
 
 // Writes an amount from a place on.
-pub fn put_amount(out: &mut [u8], at: usize, cents: u64) -> usize
+pub(crate) fn put_amount(out: &mut [u8], at: usize, cents: u64) -> usize
     requires { ⌜ at + length (amount cents) ≤ length (now out) ⌝ }
     ensures { λ r. ⌜ r ≡ at + length (amount cents) ⌝ }
     ensures { λ _. ⌜ now (out .exit) ≡ sets (now (out .entry)) at (amount cents) ⌝ }
@@ -104,7 +104,7 @@ fn has_sign(z: Signed) -> bool
 }
 
 // How many bytes a signed amount takes.
-pub fn signed_width(z: Signed) -> usize
+pub(crate) fn signed_width(z: Signed) -> usize
     ensures { λ r. ⌜ r ≡ length (signedAmount (integer z)) ⌝ }
 {
     if has_sign(z) {
@@ -116,7 +116,7 @@ pub fn signed_width(z: Signed) -> usize
 
 // Rule 13.4, writes a signed amount: first the sign, if one is due; then the amount writer is lent the part of the output
 // that begins after the sign.
-pub fn put_signed(out: &mut [u8], at: usize, z: Signed) -> usize
+pub(crate) fn put_signed(out: &mut [u8], at: usize, z: Signed) -> usize
     requires { ⌜ at + length (signedAmount (integer z)) ≤ length (now out) ⌝ }
     ensures { λ r. ⌜ r ≡ at + length (signedAmount (integer z)) ⌝ }
     ensures { λ _. ⌜ now (out .exit) ≡ sets (now (out .entry)) at (signedAmount (integer z)) ⌝ }

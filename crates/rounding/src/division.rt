@@ -34,7 +34,7 @@ pub fn divide(w: Wide, d: u64) -> Division
 }
 
 // One word by one.
-pub fn by_word(n: u64, d: u64) -> Division
+pub(crate) fn by_word(n: u64, d: u64) -> Division
     requires { ⌜ 0 < d ⌝ }
     ensures { λ s. ⌜ DivisionOf n d s ⌝ }
 {

@@ -35,7 +35,7 @@ pub fn div_nearest(n: u64, d: u64) -> u64
 }
 
 // w / d for a w of two words, rounded.
-pub fn wide_div_nearest(w: Wide, d: u64) -> u64
+fn wide_div_nearest(w: Wide, d: u64) -> u64
     requires { ⌜ (0 < d) × (nearest (value w) d < 2 ^ 64) ⌝ }
     ensures { λ r. ⌜ r ≡ nearest (value w) d ⌝ }
 {
