@@ -1,11 +1,13 @@
-"""Searches for plans whose printed N and L stray as far as they can from their exact fractions.
+"""Searches for plans whose printed V, N and L stray as far as they can from their exact fractions, by pension.
 
-    python3 tests/accuracy_search.py [ROUNDS [SEED]]
+    python3 tests/accuracy_search.py [ROUNDS [SEED]]    prints, by pension and figure, the farthest found
+    python3 tests/accuracy_search.py --write            stores them too, in tests/accuracy_found.tsv: some minutes
 
 Random plans stray little, since their roundings go up as often as down. Here the death rates are chosen age by age from
-120 down: of some hundred rates, the one with which the year steps of that age round farthest the wanted way. It prints,
-by method, the farthest N and L that it found, in cents, beside the proved limits; for the N of CP both are in
-W(x) / W(y) cents. It exits 1 where something found is over its limit. Plans and figures are those of tests/oracle.py.
+120 down: of some hundred rates, the one with which the year steps of that age round farthest the wanted way. Of the
+salaries that give the pension, or just less, the one is kept whose last roundings go that way too. Beside what is found
+stands the proved limit, in cents; for the N of CP both are in W(x) / W(y) cents. It exits 1 where something found is
+over its limit. Plans and figures are those of tests/oracle.py.
 """
 import random
 import sys
@@ -13,52 +15,29 @@ from collections.abc import Callable
 from dataclasses import dataclass
 from fractions import Fraction
 from itertools import product
-from typing import NamedTuple
 
-from oracle import (CD, CP, FINAL, FIRST, FLAT, LAST, METHOD_NAMES, METHODS, MILLION, MOST_BENEFIT, MOST_SALARY, S,
-                    SHARP_L, SHARP_N, Costs, Factors, Member, Plan, exact_benefit, nearest, refusal, rounded_costs,
-                    strays, table)
+import accuracy_found
+from accuracy_found import PENSIONS, TARGETS, Found, Shape, farthest, reached
+from oracle import (BD, BP, CD, CP, FIRST, FLAT, LAST, MILLION, MOST_BENEFIT, MOST_SALARY, S, Costs, Factors, L, N,
+                    benefit, exact_benefit, nearest, rounded_costs, stray)
 
-FIGURES = N, L = 'N', 'L'
-LIMITS = {N: SHARP_N, L: SHARP_L}
 # The rates tried lie below this one: the fewer leave, the larger is what is valued, and the less an error shrinks on
 # its way down.
 HIGHEST_RATE = 600
 TRIED_RATES = 300
-TRIED_SALARIES = 40
+# Just below the largest: they move the last roundings, and little else.
+TRIED_SALARIES = 150
 # How many shapes are tried once each way, and with how many of these the search goes on.
 TRIED_SHAPES = 12
 KEPT_SHAPES = 3
 
 
-class Shape(NamedTuple):
-    """A plan and a member but for the death rates and the salary. The weight rises once, to `jump` times, at r - 1."""
-    interest: int
-    retire: int
-    entry: int
-    age: int
-    jump: int
-
-    def plan(self, method):
-        # With this formula the benefit reaches its limit even after two years, where pay rises with the weight.
-        return Plan(self.interest, self.retire, FINAL, 500, 1, method, 0, 1)
-
-    def weight(self, k):
-        return 1000 * self.jump if k >= self.retire - 1 else 1000
-
-    def rows(self, deaths):
-        return table(lambda k: (deaths.get(k, 0), 0, 0), self.weight)
-
-    def member(self, salary):
-        return Member(1, self.entry, self.age, salary)
-
-
-def largest_salary(plan, rows, member):
-    """The largest that this member may have: B(r) before its rounding is at most 1000000.00."""
+def largest_salary(plan, rows, member, most=MOST_BENEFIT):
+    """The largest that this member may have for a B(r) that, before its rounding, is no more than `most`."""
     if plan.formula == FLAT or plan.unit == 0:
         return MOST_SALARY
     for_one_cent = exact_benefit(plan, rows, member._replace(salary=1), plan.retire)
-    return min(MOST_SALARY, MOST_BENEFIT // for_one_cent)
+    return min(MOST_SALARY, most // for_one_cent)
 
 
 def shapes():
@@ -102,27 +81,38 @@ def paying(shape, power, end):
     return Part(power, end, shape.entry, 0, lambda k: shape.weight(k) * S, size)
 
 
-def parts(shape, method, figure):
+def parts(shape, figure, method):
     r, y, x = shape.retire, shape.entry, shape.age
     annuity = working if method == CD else paying
-    if method in (CD, CP) and figure == N:
+    prorated = method in (CD, CP)
+    if prorated and figure == N:
         return [deferred(shape, y), annuity(shape, -1, r)]
     # At r the two annuities of L are the same one, and at y the first is 0.
-    if method in (CD, CP) and y < x < r:
+    if prorated and figure == L and y < x < r:
         return [deferred(shape, x), annuity(shape, 1, x), annuity(shape, -1, r)]
     return [deferred(shape, x)]
 
 
-def reach(shape, method, figure):
+def salary_for(shape, pension):
+    return largest_salary(shape.plan(CD), shape.rows({}), shape.member(0), pension)
+
+
+def pays(shape, pension):
+    """Whether a member of this shape can have the pension: after one year it is a twentieth of the pay at most."""
+    member = shape.member(salary_for(shape, pension))
+    return reached(pension, benefit(shape.plan(CD), shape.rows({}), member, shape.retire))
+
+
+def reach(shape, pension, figure, method):
     """About how far the figure could stray, were each rounding a half the wanted way: year steps, V, the figure."""
-    plan, rows, member = shape.plan(method), shape.rows({}), shape.member(0)
-    costs = rounded_costs(plan, rows, member._replace(salary=largest_salary(plan, rows, member)))
-    amount = costs.N(method, shape.age) if figure == N else costs.L(method, shape.age)
-    value = costs.V(shape.age)
-    steps = amount * sum(Fraction(part.end - part.last, 2 * part.size) for part in parts(shape, method, figure))
-    # A figure that is all of V is not rounded once more.
-    last = Fraction(1, 2) + (0 if amount == value else Fraction(amount, 2 * value))
-    unit = Fraction(shape.weight(shape.age), shape.weight(shape.entry)) if (method, figure) == (CP, N) else 1
+    plan, rows, member = shape.plan(method), shape.rows({}), shape.member(salary_for(shape, pension))
+    costs = rounded_costs(plan, rows, member)
+    amount, value = costs.figure(figure, method, shape.age), costs.V(shape.age)
+    steps = amount * sum(Fraction(part.end - part.last, 2 * part.size) for part in parts(shape, figure, method))
+    # V's own half counts where the figure is a part of V. A figure that is all of V is not rounded once more.
+    of_value = method in (BD, BP, CP) or (figure, method) == (L, CD)
+    last = Fraction(1, 2) + (Fraction(amount, 2 * value) if of_value and amount != value else 0)
+    unit = Fraction(shape.weight(shape.age), shape.weight(shape.entry)) if (figure, method) == (N, CP) else 1
     return (steps + last) / unit
 
 
@@ -150,62 +140,52 @@ def pushing_deaths(shape, parts, sign, rng):
 
 # ---- the search
 
-class Found(NamedTuple):
-    far: Fraction
-    plan: Plan
-    rows: dict
-    member: Member
-
-
-def farthest_salary(shape, method, figure, rows):
-    """The farthest over salaries just below the largest: they move the last roundings, and little else."""
-    plan = shape.plan(method)
+def farthest_salary(shape, pension, figure, method, deaths):
+    """The farthest over salaries just below the one that gives the pension."""
+    plan, rows = shape.plan(method), shape.rows(deaths)
     rounded, exact = Factors(plan, rows, nearest), Factors(plan, rows, Fraction)
-    most = largest_salary(plan, rows, shape.member(0))
     found = []
-    for salary in range(most, most - TRIED_SALARIES, -1):
+    most = salary_for(shape, pension)
+    for salary in range(most, max(0, most - TRIED_SALARIES), -1):
         member = shape.member(salary)
-        both = strays(Costs(plan, rows, member, rounded), Costs(plan, rows, member, exact), method, shape.age)
-        found.append(Found(both[FIGURES.index(figure)], plan, rows, member))
+        both = Costs(plan, rows, member, rounded), Costs(plan, rows, member, exact)
+        if reached(pension, both[0].B(plan.retire)):
+            far = stray(*both, figure, method, shape.age)
+            found.append(Found(pension, figure, method, far, shape, salary, deaths))
     return farthest(found)
 
 
-def farthest(found):
-    return max(found, key=lambda one: one.far)
-
-
-def pushed(shape, method, figure, sign, rng):
+def pushed(shape, pension, figure, method, sign, rng):
     """How far rates that push the figure of this shape one way bring it."""
-    deaths = pushing_deaths(shape, parts(shape, method, figure), sign, rng)
-    return farthest_salary(shape, method, figure, shape.rows(deaths))
+    deaths = pushing_deaths(shape, parts(shape, figure, method), sign, rng)
+    return farthest_salary(shape, pension, figure, method, deaths)
 
 
-def search(method, figure, rounds, rng):
-    """The farthest that the figure was found to stray by this method."""
-    promising = sorted(shapes(), key=lambda shape: reach(shape, method, figure))[-TRIED_SHAPES:]
-    tried = {(shape, sign): pushed(shape, method, figure, sign, rng) for shape, sign in product(promising, (1, -1))}
+def search(pension, figure, method, rounds, rng):
+    """The farthest that the figure of such a pension was found to stray by this method."""
+    of = pension, figure, method
+    promising = sorted((shape for shape in shapes() if pays(shape, pension)), key=lambda shape: reach(shape, *of))
+    tried = {(shape, sign): pushed(shape, *of, sign, rng)
+             for shape, sign in product(promising[-TRIED_SHAPES:], (1, -1))}
     kept = sorted(tried, key=lambda one: tried[one].far)[-KEPT_SHAPES:]
-    again = [pushed(shape, method, figure, sign, rng) for shape, sign in kept for _ in range(rounds)]
+    again = [pushed(shape, *of, sign, rng) for shape, sign in kept for _ in range(rounds)]
     return farthest([*tried.values(), *again])
 
 
-def report(found, figure):
-    far, plan, rows, member = found
-    limit = LIMITS[figure][plan.method]
-    print(f'{METHOD_NAMES[plan.method]} {figure}: {float(far):6.3f} found, {float(limit):6.3f} proved; '
-          f'i {plan.interest}, r {plan.retire}, y {member.entry}, x {member.age}, '
-          f'W(r-1) {rows[plan.retire - 1][3] // rows[member.entry][3]} times W(y)', flush=True)
-    if refusal(plan, rows, member) != 0:
-        sys.exit('accuracy_search: it is not an accepted member')
-    if far > limit:
-        sys.exit(f'accuracy_search: it is over the limit: {plan} {member} {rows}')
-
-
-def main(rounds=30, seed=1):
+def all_found(rounds=30, seed=1):
     rng = random.Random(seed)
-    for method, figure in product(METHODS, FIGURES):
-        report(search(method, figure, rounds, rng), figure)
+    for pension, target in product(PENSIONS, TARGETS):
+        found = search(pension, *target, rounds, rng)
+        print(found.text(), found.shape, flush=True)
+        wrong = accuracy_found.fault(found)
+        if wrong:
+            sys.exit(f'accuracy_search: {wrong}: {found}')
+        yield found
 
 
 if __name__ == '__main__':
-    main(*map(int, sys.argv[1:]))
+    if sys.argv[1:] == ['--write']:
+        accuracy_found.write(list(all_found()))
+    else:
+        for _ in all_found(*map(int, sys.argv[1:])):
+            pass

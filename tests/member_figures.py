@@ -4,8 +4,9 @@
     python3 tests/member_figures.py --check    runs target/bin/member_figures on generated members and compares
 
 A case is a plan, its rows and a member. It goes to the program as bytes, a number's little end first, and the program
-answers with a line: the figures in cents, or the number of a refusal. The check also holds each N and L to the limits
-on their distance from the exact fractions (rule 10.9), and each exact L to its future-cost form (rule 10.8).
+answers with a line: the figures in cents, or the number of a refusal. The check also holds each V, N and L to the
+limits on their distance from the exact fractions (N and L: rule 10.9), and each exact L to its future-cost form
+(rule 10.8).
 """
 import random
 import struct
@@ -17,11 +18,13 @@ from itertools import product
 from pathlib import Path
 from typing import NamedTuple
 
+import accuracy_found
 import commands
-from accuracy_search import FIGURES, Shape, largest_salary, pushed
-from oracle import (AB, AGES, CAREER, CD, CP, FINAL, FIRST, FLAT, FORMULAS, LAST, LIMIT, METHOD_NAMES, METHODS, MILLION,
-                    MOST_ASSETS, MOST_BENEFIT, MOST_SALARY, S, SHARP_L, SHARP_N, Factors, Member, Plan, benefit,
-                    exact_benefit, exact_costs, nearest, refusal, rounded_costs, short_table, strays, table)
+from accuracy_found import TARGETS, named
+from accuracy_search import largest_salary
+from oracle import (AB, AGES, CAREER, CD, CP, FIGURES, FINAL, FIRST, FLAT, FORMULAS, LAST, LIMIT, METHOD_NAMES, METHODS,
+                    MILLION, MOST_ASSETS, MOST_BENEFIT, MOST_SALARY, S, Factors, Member, Plan, benefit, exact_benefit,
+                    exact_costs, nearest, refusal, rounded_costs, sharp_limit, short_table, stray, table)
 
 ROOT = Path(__file__).parent.parent
 CRATE = ROOT / 'crates' / 'member_figures'
@@ -310,16 +313,13 @@ def extreme_cases():
                         yield Case(plan, rows, member._replace(salary=largest_salary(plan, rows, member)))
 
 
-def straying_cases(rng):
-    """Rates with which every rounding pushes a figure the same way."""
-    shape = Shape(interest=1, retire=50, entry=FIRST, age=49, jump=1)
-    for method, figure, sign in product(METHODS, FIGURES, (1, -1)):
-        found = pushed(shape, method, figure, sign, rng)
-        yield Case(found.plan, found.rows, found.member)
+def straying_cases():
+    """The farthest from their exact fractions that a search found."""
+    return [Case(*found.case()) for found in accuracy_found.read()]
 
 
 def generated(rng):
-    cases = [*at_largest_benefit(), *extreme_cases(), *straying_cases(rng)]
+    cases = [*at_largest_benefit(), *extreme_cases(), *straying_cases()]
     for formula in FORMULAS:
         case = drawn_accepted(rng)
         while case.plan.formula != formula:
@@ -357,25 +357,26 @@ def answers(cases):
 
 
 def check_exact(case, farthest, everywhere):
-    """Holds a valued member to the limits and to the two forms of L, and keeps the farthest by method: at its own age
-    by the plan's method, or `everywhere`, at each age from entry to retirement by each of the five."""
+    """Holds a valued member to the limits and to the two forms of L, and keeps the farthest of each figure: at its own
+    age by the plan's method, or `everywhere`, at each age from entry to retirement by each of the five."""
     rounded, exact = rounded_costs(*case), exact_costs(*case)
     at = [(case.plan.method, case.member.age)]
     if everywhere:
         at = product(METHODS, range(case.member.entry, case.plan.retire + 1))
     for method, k in at:
-        N, L = strays(rounded, exact, method, k)
-        if max(N, L) > LIMIT or N > SHARP_N[method] or L > SHARP_L[method]:
-            differ(case, f'{METHOD_NAMES[method]} at {k}: N strays by {float(N)} and L by {float(L)}', 'over a limit')
+        for figure in FIGURES:
+            far = stray(rounded, exact, figure, method, k)
+            if far > min(LIMIT, sharp_limit(figure, method, rounded.B(rounded.r))):
+                differ(case, f'{named(figure, method)} at {k} strays by {float(far)} cents', 'over its limit')
+            farthest[named(figure, method)] = max(farthest[named(figure, method)], far)
         if exact.L(method, k) != exact.future_cost_form(method, k):
             differ(case, f'{METHOD_NAMES[method]} at {k}', 'the exact L is not the exact V less the future normal costs')
-        farthest[method] = max(farthest[method][0], N), max(farthest[method][1], L)
 
 
 def check():
     check_worked()
     cases = [case for case, _ in worked()] + generated(random.Random(3))
-    refused, farthest = Counter(), {method: (0, 0) for method in METHODS}
+    refused, farthest = Counter(), {named(*target): 0 for target in TARGETS}
     for place, (case, said) in enumerate(zip(cases, answers(cases))):
         if said != case.line():
             differ(case, f'the oracle gives {case.line()}', f'the program {said}')
@@ -390,9 +391,9 @@ def check():
 
 def report(count, refused, farthest):
     numbers = ', '.join(f'{number}: {refused[number]}' for number in sorted(refused))
-    cents = ', '.join(f'{METHOD_NAMES[m]} {float(N):.2f} and {float(L):.2f}' for m, (N, L) in farthest.items())
+    cents = ', '.join(f'{name} {float(far):.2f}' for name, far in farthest.items())
     print(f'member_figures: {count - refused.total()} members valued; {refused.total()} refused ({numbers}); '
-          f'N and L at most so many cents from exact: {cents}')
+          f'at most so many cents from exact, and none beyond the limit for its benefit: {cents}')
 
 
 if __name__ == '__main__':

@@ -6,7 +6,7 @@ from the crates but the codes of plain values, of crates/plan, and the sharper l
 Money is in cents. Rows are a dictionary from each age to its death, withdrawal, disability and weight.
 """
 from fractions import Fraction
-from functools import cache
+from functools import cache, partial
 from typing import NamedTuple
 
 FIRST, LAST = 15, 120
@@ -257,6 +257,9 @@ class Costs:
             return quotient(self.V(k) * self.T(k)[y], self.T(r)[y])
         return quotient(self.V(k) * self.Z(k)[y], self.Z(r)[y])
 
+    def figure(self, figure, method, k):
+        return {V: self.V, N: partial(self.N, method), L: partial(self.L, method)}[figure](k)
+
     def figures(self, method, k):
         return Figures(self.B(self.r), self.V(k), self.N(method, k), self.L(method, k))
 
@@ -281,14 +284,23 @@ def exact_costs(plan, rows, member):
 
 # Rule 10.9.
 LIMIT = 15
-# The sharper limits are not among the rules: crates/costs/specs/Demand3.antt states them.
-SHARP_N = {AB: Fraction('5.8'), BD: Fraction('6.3'), BP: Fraction('6.3'), CD: Fraction('9.35'), CP: Fraction('6.31')}
-SHARP_L = {AB: Fraction('5.8'), BD: Fraction('6.3'), BP: Fraction('6.3'), CD: Fraction('13.4'), CP: Fraction('6.31')}
+FIGURES = V, N, L = 'V', 'N', 'L'
+# The sharper limits are not among the rules: crates/costs/specs/Demand3.antt states them. Each is what the last roundings
+# can add, in cents, and so many cents for each S cents of the benefit at retirement. V is the same by every method.
+SHARP = {
+    V: dict.fromkeys(METHODS, ('0.5', '53')),
+    N: {AB: ('0.5', '53'), BD: ('1', '53'), BP: ('1', '53'), CD: ('0.5', '88.5'), CP: ('1', '53.0355')},
+    L: {AB: ('0.5', '53'), BD: ('1', '53'), BP: ('1', '53'), CD: ('1', '124'), CP: ('1', '53.071')},
+}
 
 
-def strays(rounded, exact, method, k):
-    """How far N and L are from the exact ones, in cents; for the N of CP in W(k) / W(y) cents, as its limits are."""
-    unit = Fraction(exact.W(k), exact.W(exact.y)) if method == CP else 1
-    N = abs(rounded.N(method, k) - exact.N(method, k)) / unit
-    L = abs(rounded.L(method, k) - exact.L(method, k))
-    return N, L
+def sharp_limit(figure, method, benefit):
+    """How far the figure can stray for this B(r); of the N of CP in W(k) / W(y) cents."""
+    last, growth = map(Fraction, SHARP[figure][method])
+    return last + growth * Fraction(benefit, S)
+
+
+def stray(rounded, exact, figure, method, k):
+    """How far a figure is from the exact one, in cents; for the N of CP in W(k) / W(y) cents, as its limits are."""
+    unit = Fraction(exact.W(k), exact.W(exact.y)) if (figure, method) == (N, CP) else 1
+    return abs(rounded.figure(figure, method, k) - exact.figure(figure, method, k)) / unit
