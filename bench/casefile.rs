@@ -1,6 +1,14 @@
-//! What reading and accepting a case file cost in Rattle, and the same in Rust, in one pass over the bytes: form.rs for
-//! reading, reader.rs for accepting. bench/casefile builds and runs it. The sides take turns, and the best round of each
-//! counts. Exits 1 where an answer differs, of these files or of many damaged ones.
+//! What reading and accepting a case file cost in Rattle, beside Rust programs that give the same answers in one pass
+//! over the bytes: form.rs for reading, reader.rs for accepting. bench/casefile builds and runs it. The sides take
+//! turns, and the best round of each counts. Exits 1 where an answer differs, of these files or of many damaged ones.
+//!
+//! The same on both sides: the grammar, the rules in their order, the answer, and in accepting B(k) for each age of
+//! each member. What differs:
+//! - Reading in Rattle stores the rows and the members, in arrays that it clears first and throws away; form.rs keeps
+//!   none. Accepting keeps both on either side: Rattle in such arrays, copied out once all is accepted, so that a
+//!   refusal leaves the caller's as they were; reader.rs in an array and a Vec that grows, handed back as they are.
+//! - Rattle passes over the first 114 lines again, to find where the rows and the members begin. The Rust programs go
+//!   on where they are.
 #[expect(dead_code, reason = "what is read is not valued here")]
 mod factors;
 mod files;
@@ -148,6 +156,8 @@ fn main() {
     let title = format!("one file, µs, best of {ROUNDS} rounds");
     println!("{title:62} {:>8} {:>8} {:>7}", "Rattle", "Rust", "ratio");
     cases.iter().for_each(Case::print);
+    println!("what differs: Rattle passes over the first 114 lines again, and clears the arrays that it fills; where it");
+    println!("accepts it copies them out. Rust goes once over the bytes, and where it reads it keeps nothing of them");
     let mut random = Random(1);
     cases.iter().for_each(|case| case.compare(&mut random));
     println!("{} damaged files: the same answers", cases.len() * DAMAGED);

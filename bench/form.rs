@@ -1,5 +1,5 @@
-//! The form of a case file in Rust and nothing more, in one pass over the bytes that keeps no value: the plainest loop over
-//! the grammar, for reading to be held to. `reader::walk`, which keeps what it reads, takes twice as long.
+//! The form of a case file in Rust and nothing more, in one pass over the bytes that keeps no row and no member: the
+//! plainest loop over the grammar, for reading to be held to. `reader::walk` keeps what it reads.
 use crate::reader::{LARGEST, MEMBERS, Refusal, Rest};
 
 #[inline(never)]

@@ -1,5 +1,5 @@
 //! A case file read and accepted in Rust, in one pass over the bytes, for the benches to hold the proved one to: RULES
-//! sections 1 to 5 and 7.
+//! sections 1 to 5 and 7. The answers are the proved ones; bench/casefile says how the work differs.
 use crate::factors::{AGES, FIRST, Row, Rows};
 
 pub const LARGEST: usize = 65_536;

@@ -1,6 +1,10 @@
 //! What a rounding costs in Rattle, and the same rounding in Rust's u128. bench/rounding builds and runs it.
 //! Both sides are C functions that are never inlined, so each pays for a call. The sides take turns, and the best round
 //! of each counts. Exits 1 where their answers differ.
+//!
+//! The same on both sides: the inputs, the answers, one product and one rounded division. What differs is how: Rattle has
+//! no 128-bit integer, so it multiplies in columns of 32 bits and divides by a reciprocal; Rust's u128 multiplies by the
+//! machine's wide product and divides by its library's long division.
 use std::process::exit;
 use std::time::Instant;
 
@@ -186,4 +190,5 @@ fn main() {
     for case in two.iter().chain([&three]) {
         case.print();
     }
+    println!("what differs: Rattle multiplies in columns of 32 bits and divides by a reciprocal, Rust by its u128");
 }

@@ -1,12 +1,19 @@
-//! What the valuation of a case file costs in Rattle, and the same algorithm in Rust's u128: each member's own factors, A
-//! and G and then T or Z, and B(k) for each age, with reading, accepting and printing. bench/run builds and runs it.
-//! The sides take turns, and the best round of each counts; Python's oracle is run once, as a process, for scale. Exits 1
-//! where the answers or a byte of the buffers differ, of these files, of drawn plans or of damaged files.
+//! What the valuation of a case file costs in Rattle, beside a Rust program in u128 that works the same factors: each
+//! member's own A and G and then T or Z, year step by year step, and B(k) for each age, twice, once to accept it and once
+//! to value it; with reading, accepting and printing. bench/run builds and runs it. The sides take turns, and the best
+//! round of each counts; Python's oracle is run once, as a process, for scale. Exits 1 where the answers or a byte of the
+//! buffers differ, of these files, of drawn plans or of damaged files.
 //!
-//! What the difference is made of. Per file: the reader passes over the rows' bytes again to find where the members begin,
-//! and three arrays of 32,000 bytes are cleared and one is copied. Per member: CD and CP work T(y,r) or Z(y,r) twice, once
-//! for N and once for L, and BP sums the weights three times; the Rust side works each once. The rest is accepting, which
-//! has a line of its own, and the rows that are passed by value.
+//! The same on both sides: the answers and every byte of the buffer; A, G and B(k) of each member, and nothing shared
+//! from one member to the next. What differs:
+//! - per file, reading and accepting, as casefile.rs says. Rattle keeps the figures in an array of 32,000 bytes that it
+//!   clears, adds up the lengths of all lines and then writes them where they belong; Rust writes each line at once to
+//!   a Vec that grows, and copies that out where it fits;
+//! - per member, Rattle works T(y,r) or Z(y,r) twice by CD and CP, once for N and once for L, sums the weights of all
+//!   ages three times by BP, and works V(x) anew for each N and L that rests on it; Rust works each once, and sums the
+//!   weights of the member's ages alone. At x = r Rattle leaves N out, which Rust works and drops;
+//! - in Rattle the rows go by value, 1,696 bytes, to the functions that document 01 wants so; and each side rounds as in
+//!   bench/rounding.
 mod factors;
 mod files;
 mod reader;
@@ -395,5 +402,7 @@ fn main() {
     accepting.iter().for_each(|case| case.print(&accepting[0]));
     println!("Python's oracle  members        µs   times Rattle's");
     valuing[1..5].iter().for_each(scale);
+    println!("what differs: Rattle works T(y,r) or Z(y,r) twice a member by CD or CP, sums BP's weights three times, works V");
+    println!("anew for N and L, passes rows by value, passes over the first 114 lines again, and clears and copies arrays");
     check(&valuing);
 }

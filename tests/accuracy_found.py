@@ -70,7 +70,7 @@ class Found(NamedTuple):
         return named(self.figure, self.method)
 
     def text(self):
-        return f'{self.name():4} at {self.pension // 100:,}: {float(self.far):.4f} of {float(self.limit()):.4f} cents'
+        return f'{self.name()} at {self.pension // 100:,}: {float(self.far):.4f} of {float(self.limit()):.4f} cents'
 
 
 def named(figure, method):
