@@ -70,7 +70,7 @@ class Found(NamedTuple):
         return named(self.figure, self.method)
 
     def text(self):
-        return f'{self.name()} at {self.pension // 100:,}: {float(self.far):.4f} of {float(self.limit()):.4f} cents'
+        return f'{self.name()} at {self.pension // 100:,}: {ten_thousandths(self.far)} of {float(self.limit()):.4f} cents'
 
 
 def named(figure, method):
@@ -123,7 +123,7 @@ def fault(one):
     if not reached(one.pension, one.benefit()):
         return f'its pension is {one.benefit()} cents'
     if ten_thousandths(worked) != ten_thousandths(one.far):
-        return f'it strays by {float(worked):.4f} cents'
+        return f'it strays by {ten_thousandths(worked)} cents'
     return worked > one.limit() and f'its limit is {float(one.limit()):.4f} cents'
 
 
