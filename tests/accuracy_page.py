@@ -71,7 +71,7 @@ def scales_table():
     """The limits of the N of CP, in dollars."""
     def line(ratio):
         limits = [sharp_limit(N, CP, pension) for pension in PENSIONS]
-        return str(ratio), *(up(ratio * limit / 100) for limit in (LIMIT, *limits))
+        return str(ratio), *(up(ratio * limit / 100) for limit in (Fraction(LIMIT), *limits))
     return table(('W(x) / W(y)', 'the promise', *map(dollars, PENSIONS)), *map(line, RATIOS))
 
 
@@ -198,7 +198,15 @@ def legend(panel):
         yield text(30, 58 + 18 * j, f'{accuracy_found.named(mark.figure, mark.method)}, found', 12, 'start')
 
 
+def is_drawn(panel, mark):
+    """Whether a curve of the panel is the limit of the mark, to a hundredth of a cent at both ends."""
+    def apart(limit, pension):
+        return abs(sharp_limit(*limit[:2], pension) - sharp_limit(mark.figure, mark.method, pension))
+    return any(max(apart(limit, PENSIONS[0]), apart(limit, PENSIONS[-1])) < 0.01 for limit in panel.limits)
+
+
 def panel_drawn(panel, found):
+    assert all(is_drawn(panel, mark) for mark in panel.marks), f'{panel.title}: a limit has no curve'
     yield text(0, -10, panel.title, 14, 'start', weight='bold')
     yield from axes()
     for limit in panel.limits:
