@@ -119,9 +119,9 @@ def bounds():
             *map(many, (999, 1000, 1001)), *map(filled, (65536, 65537, 300000))]
 
 
-def largest_figures(rng):
+def largest_figures():
     """One member each: the largest benefits, the ends of a member's ages, and every rounding pushing one way."""
-    cases = [*at_largest_benefit(), *extreme_cases(), *straying_cases(rng)]
+    cases = [*at_largest_benefit(), *extreme_cases(), *straying_cases()]
     return [case_file(plan, rows, [only]) for plan, rows, only in cases]
 
 
@@ -217,7 +217,7 @@ def files(rng, count):
     yield from (example.read_bytes() for example in examples())
     yield from bounds()
     yield longest()
-    yield from largest_figures(rng)
+    yield from largest_figures()
     yield from balanced(rng)
     yield from damaged_files(rng)
     yield from (case_file(*drawn_valued(rng, 1000)) for _ in range(5))
