@@ -5,8 +5,8 @@
  * equation with the definitions of the rules; it always returns, and does nothing undefined. Nothing checks these
  * declarations against that file, nor what a caller passes.
  *
- * Answers: 0, or the number of a refusal (rule 12.3); its line is the line of the case file, or 0 where it has none. What is wrong,
- * in the words of bin/refusals.tsv:
+ * Answers: 0, or the number of a refusal (rule 12.3); its line is the line of the case file, or 0 where it has none.
+ * What is wrong, in the words of bin/refusals.tsv:
  *   the sender of the file mends:
  *     1   over 65,536 bytes
  *     2   the file ends where a line, or the rest of one, is due

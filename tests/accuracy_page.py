@@ -170,7 +170,7 @@ def axes():
         yield text(-8, above(cents) + 4, f'{float(cents):g}', anchor='end')
     yield line(0, above(LIMIT), WIDE, above(LIMIT), INK, '6 4')
     yield text(-8, above(LIMIT) + 4, str(LIMIT), anchor='end')
-    yield text(8, above(LIMIT) - 5, 'the promise: 15', anchor='start')
+    yield text(8, above(LIMIT) - 5, 'the promise for N and L: 15', anchor='start')
 
 
 def limit_curve(limit):

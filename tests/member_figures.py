@@ -120,7 +120,7 @@ def check_worked():
             figures = refusal(*case) == 0 and case.figures()._asdict()
             agrees = figures and all(figures[field] == dollars(amount) for field, amount in said.items())
         if not agrees:
-            differ(case, f'document 01 says {said}', f'the oracle {case.line()}')
+            differ(case, f'the rules say {said}', f'the oracle {case.line()}')
     check_worked_parts()
 
 
@@ -139,7 +139,7 @@ def check_worked_parts():
     }
     for name, (made, said) in parts.items():
         if made != said:
-            sys.exit(f'member_figures: document 01 says {name} is {said}, the oracle {made}')
+            sys.exit(f'member_figures: the rules say {name} is {said}, the oracle {made}')
 
 
 # ---- drawn cases

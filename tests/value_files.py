@@ -98,7 +98,7 @@ def check_worked():
     """The oracle prints what is worked by hand, and what is stored beside the examples."""
     for name, case, said in worked():
         if not re.match(re.escape(said).replace(rb'\*', rb'[^,\n]*'), lines(case)):
-            differ(case, f'{name}: document 01 says {said}', f'the oracle {lines(case)}')
+            differ(case, f'{name}: the rules say {said}', f'the oracle {lines(case)}')
     for example in examples():
         stored = example.with_suffix('.lines').read_bytes()
         if lines(example.read_bytes()) != stored:

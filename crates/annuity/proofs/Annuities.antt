@@ -5,7 +5,7 @@ use native.Mathlib.Nat.{le-refl, add-zero, add-suc}
 use native.Mathlib.Omega.{arith}
 use Rattle.fractions.specs.Ratio.{Ratio, whole, _⊕_, Proper, Positive, _≼_}
 use Rattle.fractions.proofs.RatioLaws.{whole-proper, over-proper, ⊕-proper, ⊗-proper, whole-positive, ⊕-positive, whole-⊕}
-use Rattle.fractions.proofs.OrderLaws.{zero-≼, ≼-refl, ≼-⊕, _∙≼_, ⊕-mono, ⊗-mono, whole-≼}
+use Rattle.fractions.proofs.OrderLaws.{zero-≼, ≼-refl, _∙≼_, ⊕-mono, ⊗-mono, whole-≼}
 use Rattle.annuity.specs.Recursion.{carried}
 use Rattle.annuity.specs.Basis.{Basis, Fair}
 use Rattle.annuity.specs.Factors.{step, step*}
