@@ -1,5 +1,6 @@
-"""What test programs share: the input and output that a crate stores, written or compared, and the two commands."""
+"""What test programs share: the input and output that a crate stores, written or compared, the two commands, and counts."""
 import sys
+from collections import Counter
 
 
 def run(name, usage, files, check):
@@ -14,3 +15,23 @@ def run(name, usage, files, check):
         check()
     else:
         sys.exit(usage)
+
+
+def numbers_of(lines):
+    """How often each number is given, where lines are refusals."""
+    return Counter(int(line[8:].split(',')[0]) for line in lines if line.startswith('refused='))
+
+
+def counted(numbers):
+    return ', '.join(f'{number}: {numbers[number]}' for number in sorted(numbers))
+
+
+def hold(name, expected, said):
+    """Holds all that a program writes to what it must write for each case in turn, pairs of a case and its bytes."""
+    at = 0
+    for case, answer in expected:
+        if said[at:at + len(answer)] != answer:
+            sys.exit(f'{name}: {case}\n{answer} is expected, and the program writes {said[at:at + len(answer)]}')
+        at += len(answer)
+    if at != len(said):
+        sys.exit(f'{name}: the program writes too much')

@@ -4,9 +4,9 @@
     python3 tests/member_figures.py --check    runs target/bin/member_figures on generated members and compares
 
 A case is a plan, its rows and a member. It goes to the program as bytes, a number's little end first, and the program
-answers with a line: the figures in cents, or the number of a refusal. The check also holds each V, N and L to the
-limits on their distance from the exact fractions (N and L: rule 10.9), and each exact L to its future-cost form
-(rule 10.8).
+answers with three lines: what accepting the plan says, what accepting the member says, and its figures in cents, or the
+number of a refusal. The check also holds each V, N and L to the limits on their distance from the exact fractions (N and
+L: rule 10.9), and each exact L to its future-cost form (rule 10.8).
 """
 import random
 import struct
@@ -20,18 +20,20 @@ from typing import NamedTuple
 
 import accuracy_found
 import commands
+from commands import counted, numbers_of
 from accuracy_found import TARGETS, named
 from accuracy_search import largest_salary
 from oracle import (AB, AGES, CAREER, CD, CP, FIGURES, FINAL, FIRST, FLAT, FORMULAS, LAST, LIMIT, METHOD_NAMES, METHODS,
                     MILLION, MOST_ASSETS, MOST_BENEFIT, MOST_SALARY, S, Factors, Member, Plan, benefit, exact_benefit,
-                    exact_costs, nearest, refusal, rounded_costs, sharp_limit, short_table, stray, table)
+                    exact_costs, nearest, refusal, refusal_of_plan, rounded_costs, sharp_limit, short_table, stray, table)
 
 ROOT = Path(__file__).parent.parent
 CRATE = ROOT / 'crates' / 'member_figures'
 PROGRAM = ROOT / 'target' / 'bin' / 'member_figures'
 # Refusal 26, a benefit that falls, can't occur: weights never fall, so neither the pay of the years nor a mean of the
 # last ones does.
-REFUSALS = {10, 11, 12, 13, 14, 15, 21, 22, 23, 24, 25}
+OF_PLAN = {10, 11, 12, 13, 14, 15}
+REFUSALS = OF_PLAN | {21, 22, 23, 24, 25}
 
 
 class Case(NamedTuple):
@@ -46,10 +48,12 @@ class Case(NamedTuple):
     def figures(self):
         return rounded_costs(*self).figures(self.plan.method, self.member.age)
 
-    def line(self):
-        """The line that the program must write."""
-        number = refusal(*self)
-        return f'refused={number},0' if number else 'figures=' + ','.join(map(str, self.figures()))
+    def lines(self):
+        """The lines that the program must write: of the plan, of the member, and of its figures."""
+        of_plan, of_member = refusal_of_plan(self.plan, self.rows), refusal(*self)
+        yield f'refused={of_plan},0' if of_plan else 'accepted'
+        yield f'refused={of_member},0' if of_member else 'accepted'
+        yield f'refused={of_member},0' if of_member else 'figures=' + ','.join(map(str, self.figures()))
 
 
 # ---- the cases worked by hand: RULES section 14
@@ -120,7 +124,7 @@ def check_worked():
             figures = refusal(*case) == 0 and case.figures()._asdict()
             agrees = figures and all(figures[field] == dollars(amount) for field, amount in said.items())
         if not agrees:
-            differ(case, f'the rules say {said}', f'the oracle {case.line()}')
+            differ(case, f'the rules say {said}', f'the oracle {[*case.lines()]}')
     check_worked_parts()
 
 
@@ -289,6 +293,30 @@ def at_some_edges(rng, case):
     return changed(case, [rng.choice(kind) for kind in kinds])
 
 
+def at_extremes(rng, case):
+    """Some fields at an end of what they hold, or anywhere in it: sums and differences of such numbers would wrap."""
+    def long():
+        return rng.choice([0, 1, 2**32 - 1, 2**32, 2**63, 2**64 - 2, 2**64 - 1, rng.randrange(2**64)])
+
+    def row(k):
+        cells = list(case.rows[k])
+        cells[rng.randrange(4)] = rng.choice([0, 1, 2**31, 2**32 - 2, 2**32 - 1, rng.randrange(2**32)])
+        return tuple(cells)
+
+    kinds = [lambda: Change(plan={rng.choice(Plan._fields): long()}), lambda: Change(member={rng.choice(Member._fields): long()}),
+             lambda: Change(rows={k: row(k) for k in [rng.choice(AGES)]})]
+    # The heading comes first: a member's fault is seen only where the plan has none.
+    return changed(case, [kind() for kind in rng.choices(kinds, [1, 4, 1], k=rng.choice([1, 2, 3]))])
+
+
+def all_extreme(case):
+    """All fields of the plan, of each row or of the member as large as they can be."""
+    plan, member = Plan(*[2**64 - 1] * 8), Member(*[2**64 - 1] * 4)
+    rows = dict.fromkeys(AGES, (2**32 - 1,) * 4)
+    return [Case(plan, rows, member), Case(plan, case.rows, case.member), Case(case.plan, rows, member),
+            Case(case.plan, rows, case.member), Case(case.plan, case.rows, member)]
+
+
 def at_largest_benefit():
     """About B(r) = 1000000.00, with equal weights and one year's pay: 25 goes by the rounded benefit."""
     # Years of service at 5 percent, and a salary for which B(r) before its rounding is 100000000 cents and the tenths.
@@ -325,7 +353,9 @@ def generated(rng):
         while case.plan.formula != formula:
             case = drawn_accepted(rng)
         cases += at_edges(case)
+        cases += all_extreme(case)
     cases += [at_some_edges(rng, drawn_accepted(rng)) for _ in range(1000)]
+    cases += [at_extremes(rng, drawn_accepted(rng)) for _ in range(500)]
     return cases + [drawn_case(rng) for _ in range(2500)]
 
 
@@ -338,7 +368,7 @@ def stored_files():
     cases = [case for case, _ in worked()]
     return {
         CRATE / 'stdin': b''.join(case.bytes() for case in cases),
-        CRATE / 'stdout': ''.join(f'{case.line()}\n' for case in cases).encode(),
+        CRATE / 'stdout': ''.join(f'{line}\n' for case in cases for line in case.lines()).encode(),
     }
 
 
@@ -347,13 +377,13 @@ def differ(case, expected, said):
 
 
 def answers(cases):
-    """What the program writes. A last case lacks a byte, so that it is no case."""
+    """What the program writes for each. A last case lacks a byte, so that it is no case."""
     given = b''.join(case.bytes() for case in cases) + cases[0].bytes()[:-1]
     said = subprocess.run([PROGRAM], input=given, stdout=subprocess.PIPE, check=True).stdout.decode()
     lines = said.split('\n')
-    if len(lines) != len(cases) + 1 or lines.pop() != '':
+    if len(lines) != 3 * len(cases) + 1 or lines.pop() != '':
         sys.exit(f'member_figures: the program writes {said.count(chr(10))} lines for {len(cases)} cases')
-    return lines
+    return list(zip(lines[::3], lines[1::3], lines[2::3]))
 
 
 def check_exact(case, farthest, everywhere):
@@ -376,24 +406,25 @@ def check_exact(case, farthest, everywhere):
 def check():
     check_worked()
     cases = [case for case, _ in worked()] + generated(random.Random(3))
-    refused, farthest = Counter(), {named(*target): 0 for target in TARGETS}
+    of_plan, refused, farthest = Counter(), Counter(), {named(*target): 0 for target in TARGETS}
     for place, (case, said) in enumerate(zip(cases, answers(cases))):
-        if said != case.line():
-            differ(case, f'the oracle gives {case.line()}', f'the program {said}')
-        if said.startswith('refused='):
-            refused[int(said.removeprefix('refused=').split(',')[0])] += 1
-        else:
+        expected = tuple(case.lines())
+        if said != expected:
+            differ(case, f'the oracle gives {expected}', f'the program {said}')
+        of_plan.update(numbers_of(said[:1]))
+        refused.update(numbers_of(said[1:2]))
+        if refusal(*case) == 0:
             check_exact(case, farthest, place % EVERYWHERE == 0)
-    if set(refused) != REFUSALS:
-        sys.exit(f'member_figures: the cases give the refusals {sorted(refused)}')
-    report(len(cases), refused, farthest)
+    if set(of_plan) != OF_PLAN or set(refused) != REFUSALS:
+        sys.exit(f'member_figures: the plans give the refusals {sorted(of_plan)}, the members {sorted(refused)}')
+    report(len(cases), of_plan, refused, farthest)
 
 
-def report(count, refused, farthest):
-    numbers = ', '.join(f'{number}: {refused[number]}' for number in sorted(refused))
+def report(count, of_plan, refused, farthest):
     cents = ', '.join(f'{name} {float(far):.2f}' for name, far in farthest.items())
-    print(f'member_figures: {count - refused.total()} members valued; {refused.total()} refused ({numbers}); '
-          f'at most so many cents from exact, and none beyond the limit for its benefit: {cents}')
+    print(f'member_figures: {count - of_plan.total()} plans accepted; {count - refused.total()} members accepted and '
+          f'valued; {refused.total()} refused ({counted(refused)}); at most so many cents from exact, and none beyond '
+          f'the limit for its benefit: {cents}')
 
 
 if __name__ == '__main__':

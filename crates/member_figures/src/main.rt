@@ -1,14 +1,18 @@
-// Reads cases from standard input, one after another, and writes a line for each: the figures of a lone member,
-// `figures=` B(r), V, N and L in cents, or `refused=` the number and the line of its refusal. A case is bytes, a number's little end
-// first: the plan's interest, retire, formula, unit, average, method, assets and years in 8 each, then for each age 15
-// to 120 its death, withdrawal, disability and weight in 4 each, then the member's id, entry, age and salary in 8 each.
-// What it must write was made by another program, tests/member_figures.py.
+// Reads cases from standard input, one after another, and writes three lines for each: what accepting the plan answers,
+// what accepting the lone member answers, and what valuing it does, `figures=` B(r), V, N and L in cents. A refusal is
+// `refused=` its number and its line. A case is bytes, a number's little end first: the plan's interest, retire, formula,
+// unit, average, method, assets and years in 8 each, then for each age 15 to 120 its death, withdrawal, disability and
+// weight in 4 each, then the member's id, entry, age and salary in 8 each. What it must write was made by another
+// program, tests/member_figures.py.
 use costs::Figures;
 use costs::Valuation;
 use libc::STDIN_FILENO;
 use libc::STDOUT_FILENO;
 use plan::Member;
 use plan::Plan;
+use plan::acceptance::Acceptance;
+use plan::acceptance::accept_member;
+use plan::acceptance::accept_plan;
 ghost use Prim.Native.Nat.{_+_, _≤_, _<_};
 
 // How many bytes a case has.
@@ -42,9 +46,20 @@ fn answer(bytes: &[u8; SIZE]) {
     let p = plan_of(bytes);
     let rows = rows_of(bytes);
     let m = member_of(bytes);
+    accepting(accept_plan(p, rows));
+    accepting(accept_member(p, rows, m));
     match costs::value_member(p, rows, m) {
         Valuation::Valued(f) => figures(f),
         Valuation::Refused(number, line) => refused(number, line),
+    }
+}
+
+fn accepting(answer: Acceptance) {
+    match answer {
+        Acceptance::Accepted => {
+            io::write_all(STDOUT_FILENO, b"accepted\n");
+        }
+        Acceptance::Refused(number, line) => refused(number, line),
     }
 }
 
