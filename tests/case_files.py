@@ -10,12 +10,13 @@ import random
 import struct
 import subprocess
 import sys
-from collections import Counter
 from pathlib import Path
+from typing import NamedTuple
 
 import commands
+from commands import numbers_of
 from case_oracle import Refused, accepting, reading, walk
-from oracle import AGES, short_table
+from oracle import AGES, FIRST, LAST, short_table
 
 ROOT = Path(__file__).parent.parent
 CRATE = ROOT / 'crates' / 'case_answers'
@@ -162,6 +163,148 @@ def stray_bytes(case, rng, count):
         yield case[:at] + bytes([rng.choice(b'\n0159,=.-x\x00\xff')]) + case[at + 1:]
 
 
+# ---- two faults, one of range and one of form
+
+# What is no whole number, and no amount, whatever the range.
+NO_WHOLE = [b'', b'00', b'01', b'-1', b'+1', b' 1', b'1 ', b'9999999999999', b'1.00', b'1a', b'a', b'\x00', b'\xff', b'1,1']
+NO_AMOUNT = [b'', b'0', b'1.0', b'1.000', b'.00', b'01.00', b'-1.00', b'1.00.00', b'4125.50.75', b'1,00', b'9999999999999.00']
+
+
+class Fault(NamedTuple):
+    """A part of a line, its key being part 0, that is another one; and the refusal that it gives. `cuts`: the bytes end
+    after the part."""
+    line: int
+    part: int
+    text: bytes
+    number: int
+    cuts: bool = False
+
+
+def first_of(faults):
+    """The number and the line of the first: line by line, and in a line 2, 27, then rising number."""
+    first = min(faults, key=lambda fault: (fault.line, {2: 0, 27: 1}.get(fault.number, fault.number)))
+    return first.number, first.line
+
+
+def two_fault_bases():
+    """Each formula, with members that are far from every bound; the weights rise, so that one can fall."""
+    rising = {age: (400000, 10, 0, 1000 + age) if age < 120 else (1000000, 0, 0, 1120) for age in AGES}
+    members = [member(10, 20, 40, '500.00'), member(20, 30, 50, '600.00'), member(30, 25, 60, '700.00')]
+    for terms in (dict(unit='900'), dict(formula='career', unit='500'), dict(formula='final', unit='500', average='3')):
+        yield file(heading(**terms), rising, members).split(b'\n')[:-1]
+
+
+def parts_of(line):
+    key, values = line.split(b'=')
+    return [key, *values.split(b',')]
+
+
+def range_faults(lines):
+    """By the lines' kind: those of the heading, of the rows, of the members. No amount is over the bound of the assets."""
+    formula = lines[2].split(b'=')[1]
+    head = [(1, b'2001', 11), (1, b'999999999999', 11), (2, b'49', 11), (2, b'76', 11), (2, b'0', 11),
+            (4, b'100001' if formula == b'flat' else b'501', 11), (8, b'0', 11), (8, b'41', 11),
+            *((5, text, 12) for text in ((b'0', b'11') if formula == b'final' else (b'1', b'10')))]
+    yield [Fault(line, 1, text, number) for line, text, number in head]
+    yield [fault for age in AGES for fault in row_range_faults(age, int(parts_of(lines[age - 7])[5]))]
+    long_service = [] if formula == b'flat' else [Fault(115, 4, b'1000000.00', 25)]
+    yield [*long_service, *(fault for place in range(114, len(lines) - 1) for fault in member_range_faults(lines, place))]
+
+
+def row_range_faults(age, weight):
+    line = age - 6
+    for part in (2, 3, 4):
+        yield from (Fault(line, part, text, 11) for text in (b'1000001', b'999999999999'))
+    yield Fault(line, 4, b'1000000', 13)
+    yield from (Fault(line, 5, text, 15) for text in (b'0', b'999', b'100001'))
+    if age > FIRST:
+        yield Fault(line, 5, b'%d' % (weight - 2), 15)
+    if age == LAST:
+        yield Fault(line, 2, b'999999', 14)
+
+
+def member_range_faults(lines, place):
+    _, id, entry, _, _ = parts_of(lines[place])
+    before = parts_of(lines[place - 1])[1] if place > 114 else b'0'
+    said = [(1, b'0', 21), (1, b'1000000000', 21), (1, before, 21), (2, b'14', 22), (2, b'65', 22), (2, b'0', 22),
+            (3, b'%d' % (int(entry) - 1), 23), (3, b'66', 23), (4, b'1000000.01', 24), (4, b'999999999999.99', 24)]
+    return [Fault(place + 1, part, text, number) for part, text, number in said]
+
+
+def form_faults(lines):
+    """By the lines' kind, likewise; the end line is with the members."""
+    head, rows, members = [], [], []
+    for place, line in enumerate(lines):
+        key, *values = parts_of(line)
+        faults = head if place < 8 else rows if place < 114 else members
+        number = 10 if place < 114 else 20
+        faults += [Fault(place + 1, 0, text, number) for text in (key[1:], key.upper(), b' ' + key, b'')]
+        for part, value in enumerate(values, 1):
+            if key in (b'formula', b'method'):
+                wrong = [b'', value.swapcase(), value + b' ', value[:-1]]
+            else:
+                wrong = NO_AMOUNT if b'.' in value else NO_WHOLE
+            faults += [Fault(place + 1, part, text, number) for text in wrong]
+            faults.append(Fault(place + 1, part, value, 2, cuts=True))
+        if key == b'row':
+            faults += [Fault(place + 1, 1, b'%d' % age, 10) for age in (int(values[0]) - 1, int(values[0]) + 1)]
+    end = len(lines)
+    members.append(Fault(end, 1, b'2', 4))
+    # Bytes after the end line are the fault of the line after it.
+    members += [Fault(end + 1, 0, text, 3) for text in (b'x', b'end', b'member')]
+    return head, rows, members
+
+
+def with_faults(lines, faults):
+    """The file with these faults, one that cuts being the last of them."""
+    changed, end = [parts_of(line) for line in lines], b'\n'
+    for fault in faults:
+        if fault.line > len(lines):
+            changed.append([fault.text, b'3'])
+        changed[fault.line - 1][fault.part] = fault.text
+        if fault.cuts:
+            del changed[fault.line:], changed[-1][fault.part + 1:]
+            end = b''
+    return b'\n'.join(key + b'=' + b','.join(values) for key, *values in changed) + end
+
+
+def both_faults(lines, of_range, of_form):
+    """The file with both, and what reading and accepting must say. Reading sees the form alone."""
+    return with_faults(lines, [of_range, of_form]), first_of([of_form]), first_of([of_range, of_form])
+
+
+def drawn_faults(rng):
+    """Lines, a fault of range and one of form in another part; every other time in the same line."""
+    bases = [(lines, list(range_faults(lines)), form_faults(lines)) for lines in two_fault_bases()]
+    while True:
+        lines, ranges, forms = rng.choice(bases)
+        kind = rng.randrange(3)
+        of_range = rng.choice(ranges[kind])
+        near = [fault for kind in forms for fault in kind if fault.line == of_range.line and fault.part != of_range.part]
+        yield lines, of_range, rng.choice(near)
+        of_form = rng.choice(forms[rng.choice([0, 1, 2, kind, kind])])
+        if of_form.line != of_range.line:
+            yield lines, of_range, of_form
+
+
+def two_faults(count, seed=6):
+    """So many files with the fault of range in the earlier line, as many with it in the later one, and as many with both in
+    one line; then some of too many members, and one that is too long."""
+    drawn = drawn_faults(random.Random(seed))
+    files = {-1: [], 0: [], 1: []}
+    while min(map(len, files.values())) < count:
+        lines, of_range, of_form = next(drawn)
+        files[(of_range.line > of_form.line) - (of_range.line < of_form.line)].append(both_faults(lines, of_range, of_form))
+    lines = many(1001).split(b'\n')[:-1]
+    surplus = Fault(1115, 0, b'member', 27)
+    for of_range in (Fault(2, 1, b'49', 11), Fault(114, 2, b'999999', 14), Fault(115, 1, b'0', 21), Fault(1114, 2, b'14', 22),
+                     Fault(1115, 1, b'0', 21), Fault(1115, 4, b'1000000.01', 24)):
+        yield both_faults(lines, of_range, surplus)
+    yield with_faults(lines[:200], [Fault(1, 1, b'2001', 11)]).ljust(70000, b'x'), (1, 0), (1, 0)
+    for one in files.values():
+        yield from one[:count]
+
+
 def all_files():
     rng = random.Random(5)
     small, *others = good_files()
@@ -210,15 +353,12 @@ def stored_files():
     }
 
 
-def numbers_of(lines):
-    return Counter(int(line[8:].split(',')[0]) for line in lines if line.startswith('refused='))
-
-
 def check():
-    for case, *said in worked():
+    faulty = list(two_faults(300))
+    for case, *said in (*worked(), *faulty):
         if [reading(case), accepting(case)] != said:
-            sys.exit(f'case_files: a refusal worked by hand is not {said}')
-    files = all_files()
+            sys.exit(f'case_files: {case}\n{said} is due, and the oracle says {[reading(case), accepting(case)]}')
+    files = all_files() + [case for case, _, _ in faulty]
     said = subprocess.run([PROGRAM], input=given(files), stdout=subprocess.PIPE, check=True).stdout.decode().split('\n')
     expected = [line for case in files for line in answers(case)]
     for place, (line, answer) in enumerate(zip(expected, said)):
@@ -229,8 +369,8 @@ def check():
     read, accepted = numbers_of(expected[::2]), numbers_of(expected[1::2])
     if set(read) != READING or set(accepted) != ACCEPTING:
         sys.exit(f'case_files: reading gives {sorted(read)}, accepting {sorted(accepted)}')
-    print(f'case_files: {len(files)} files agree; reading refuses {read.total()}, accepting {accepted.total()}, '
-          f'with each number that can occur')
+    print(f'case_files: {len(files)} files agree, {len(faulty)} of them with two faults; reading refuses {read.total()}, '
+          f'accepting {accepted.total()}, with each number that can occur')
 
 
 if __name__ == '__main__':
