@@ -6,7 +6,7 @@ use std::io::{self, Read, Write};
 const LARGEST: usize = 65_536;
 
 mod exported {
-    unsafe extern "C" {
+    extern "C" {
         pub fn kuyeshan_value(
             case: *const u8,
             case_len: usize,

@@ -14,7 +14,6 @@ from pathlib import Path
 from typing import NamedTuple
 
 import commands
-from commands import numbers_of
 from case_oracle import Refused, accepting, reading, walk
 from oracle import AGES, FIRST, LAST, short_table
 
@@ -166,8 +165,10 @@ def stray_bytes(case, rng, count):
 # ---- two faults, one of range and one of form
 
 # What is no whole number, and no amount, whatever the range.
-NO_WHOLE = [b'', b'00', b'01', b'-1', b'+1', b' 1', b'1 ', b'9999999999999', b'1.00', b'1a', b'a', b'\x00', b'\xff', b'1,1']
-NO_AMOUNT = [b'', b'0', b'1.0', b'1.000', b'.00', b'01.00', b'-1.00', b'1.00.00', b'4125.50.75', b'1,00', b'9999999999999.00']
+NO_WHOLE = [b'', b'00', b'01', b'-1', b'+1', b' 1', b'1 ', b'9999999999999', b'1.00', b'1a', b'a', b'\x00', b'\xff',
+            b'1,1']
+NO_AMOUNT = [b'', b'0', b'1.0', b'1.000', b'.00', b'01.00', b'-1.00', b'1.00.00', b'4125.50.75', b'1,00',
+             b'9999999999999.00']
 
 
 class Fault(NamedTuple):
@@ -200,7 +201,7 @@ def parts_of(line):
 
 
 def range_faults(lines):
-    """By the lines' kind: those of the heading, of the rows, of the members. No amount is over the bound of the assets."""
+    """By the lines' kind: heading, rows, members. No amount is over the bound of the assets, so these have none."""
     formula = lines[2].split(b'=')[1]
     head = [(1, b'2001', 11), (1, b'999999999999', 11), (2, b'49', 11), (2, b'76', 11), (2, b'0', 11),
             (4, b'100001' if formula == b'flat' else b'501', 11), (8, b'0', 11), (8, b'41', 11),
@@ -288,17 +289,18 @@ def drawn_faults(rng):
 
 
 def two_faults(count, seed=6):
-    """So many files with the fault of range in the earlier line, as many with it in the later one, and as many with both in
-    one line; then some of too many members, and one that is too long."""
+    """Some files with too many members, one that is too long; then so many with the fault of range in the earlier line,
+    as many with it in the later one, and as many with both in one line."""
     drawn = drawn_faults(random.Random(seed))
     files = {-1: [], 0: [], 1: []}
     while min(map(len, files.values())) < count:
         lines, of_range, of_form = next(drawn)
-        files[(of_range.line > of_form.line) - (of_range.line < of_form.line)].append(both_faults(lines, of_range, of_form))
+        order = (of_range.line > of_form.line) - (of_range.line < of_form.line)
+        files[order].append(both_faults(lines, of_range, of_form))
     lines = many(1001).split(b'\n')[:-1]
     surplus = Fault(1115, 0, b'member', 27)
-    for of_range in (Fault(2, 1, b'49', 11), Fault(114, 2, b'999999', 14), Fault(115, 1, b'0', 21), Fault(1114, 2, b'14', 22),
-                     Fault(1115, 1, b'0', 21), Fault(1115, 4, b'1000000.01', 24)):
+    for of_range in (Fault(2, 1, b'49', 11), Fault(114, 2, b'999999', 14), Fault(115, 1, b'0', 21),
+                     Fault(1114, 2, b'14', 22), Fault(1115, 1, b'0', 21), Fault(1115, 4, b'1000000.01', 24)):
         yield both_faults(lines, of_range, surplus)
     yield with_faults(lines[:200], [Fault(1, 1, b'2001', 11)]).ljust(70000, b'x'), (1, 0), (1, 0)
     for one in files.values():
@@ -366,7 +368,7 @@ def check():
             sys.exit(f'case_files: {files[place // 2]}\n{line} is expected, and the program writes {answer}')
     if len(said) != len(expected) + 1:
         sys.exit('case_files: the program writes too many lines, or too few')
-    read, accepted = numbers_of(expected[::2]), numbers_of(expected[1::2])
+    read, accepted = commands.numbers_of(expected[::2]), commands.numbers_of(expected[1::2])
     if set(read) != READING or set(accepted) != ACCEPTING:
         sys.exit(f'case_files: reading gives {sorted(read)}, accepting {sorted(accepted)}')
     print(f'case_files: {len(files)} files agree, {len(faulty)} of them with two faults; reading refuses {read.total()}, '

@@ -1,4 +1,5 @@
-"""What test programs share: the input and output that a crate stores, written or compared, the two commands, and counts."""
+"""What test programs share: the input and output that a crate stores, written or compared, the two commands, and what a
+program writes, compared and counted."""
 import sys
 from collections import Counter
 

@@ -12,7 +12,6 @@ import random
 import struct
 import subprocess
 import sys
-from collections import Counter
 from fractions import Fraction
 from itertools import product
 from pathlib import Path
@@ -20,7 +19,6 @@ from typing import NamedTuple
 
 import accuracy_found
 import commands
-from commands import counted, numbers_of
 from accuracy_found import TARGETS, named
 from accuracy_search import largest_salary
 from oracle import (AB, AGES, CAREER, CD, CP, FIGURES, FINAL, FIRST, FLAT, FORMULAS, LAST, LIMIT, METHOD_NAMES, METHODS,
@@ -294,19 +292,26 @@ def at_some_edges(rng, case):
 
 
 def at_extremes(rng, case):
-    """Some fields at an end of what they hold, or anywhere in it: sums and differences of such numbers would wrap."""
-    def long():
-        return rng.choice([0, 1, 2**32 - 1, 2**32, 2**63, 2**64 - 2, 2**64 - 1, rng.randrange(2**64)])
+    """Some fields at an end of what they hold, where sums would wrap; or good but for a bit that a narrower field lacks."""
+    def extreme(good, bits):
+        return rng.choice([0, 1, good ^ 2**(bits // 2), good ^ 2**(bits - 1), 2**bits - 2, 2**bits - 1])
 
-    def row(k):
-        cells = list(case.rows[k])
-        cells[rng.randrange(4)] = rng.choice([0, 1, 2**31, 2**32 - 2, 2**32 - 1, rng.randrange(2**32)])
-        return tuple(cells)
+    def of_plan():
+        field = rng.choice(Plan._fields)
+        return Change(plan={field: extreme(getattr(case.plan, field), 64)})
 
-    kinds = [lambda: Change(plan={rng.choice(Plan._fields): long()}), lambda: Change(member={rng.choice(Member._fields): long()}),
-             lambda: Change(rows={k: row(k) for k in [rng.choice(AGES)]})]
-    # The heading comes first: a member's fault is seen only where the plan has none.
-    return changed(case, [kind() for kind in rng.choices(kinds, [1, 4, 1], k=rng.choice([1, 2, 3]))])
+    def of_row():
+        age, place = rng.choice(AGES), rng.randrange(4)
+        row = case.rows[age]
+        return Change(rows={age: (*row[:place], extreme(row[place], 32), *row[place + 1:])})
+
+    def of_member():
+        field = rng.choice(Member._fields)
+        return Change(member={field: extreme(getattr(case.member, field), 64)})
+
+    # Mostly of the member: its fault is seen only where the plan has none.
+    kinds = rng.choices([of_plan, of_row, of_member], [1, 1, 4], k=rng.choice([1, 2, 3]))
+    return changed(case, [kind() for kind in kinds])
 
 
 def all_extreme(case):
@@ -406,15 +411,15 @@ def check_exact(case, farthest, everywhere):
 def check():
     check_worked()
     cases = [case for case, _ in worked()] + generated(random.Random(3))
-    of_plan, refused, farthest = Counter(), Counter(), {named(*target): 0 for target in TARGETS}
-    for place, (case, said) in enumerate(zip(cases, answers(cases))):
+    said, farthest = answers(cases), {named(*target): 0 for target in TARGETS}
+    for place, (case, lines) in enumerate(zip(cases, said)):
         expected = tuple(case.lines())
-        if said != expected:
-            differ(case, f'the oracle gives {expected}', f'the program {said}')
-        of_plan.update(numbers_of(said[:1]))
-        refused.update(numbers_of(said[1:2]))
+        if lines != expected:
+            differ(case, f'the oracle gives {expected}', f'the program {lines}')
         if refusal(*case) == 0:
             check_exact(case, farthest, place % EVERYWHERE == 0)
+    of_plan = commands.numbers_of(line for line, _, _ in said)
+    refused = commands.numbers_of(line for _, line, _ in said)
     if set(of_plan) != OF_PLAN or set(refused) != REFUSALS:
         sys.exit(f'member_figures: the plans give the refusals {sorted(of_plan)}, the members {sorted(refused)}')
     report(len(cases), of_plan, refused, farthest)
@@ -423,7 +428,7 @@ def check():
 def report(count, of_plan, refused, farthest):
     cents = ', '.join(f'{name} {float(far):.2f}' for name, far in farthest.items())
     print(f'member_figures: {count - of_plan.total()} plans accepted; {count - refused.total()} members accepted and '
-          f'valued; {refused.total()} refused ({counted(refused)}); at most so many cents from exact, and none beyond '
+          f'valued; {refused.total()} refused ({commands.counted(refused)}); at most so many cents from exact, and none beyond '
           f'the limit for its benefit: {cents}')
 
 

@@ -6,6 +6,7 @@ The file is read and accepted by case_oracle.py, and its members are valued by o
 """
 import sys
 from fractions import Fraction
+from functools import lru_cache
 from typing import NamedTuple
 
 from case_oracle import Refused, walk
@@ -65,15 +66,31 @@ def valued(plan, rows, members):
 
 # ---- what is printed
 
+@lru_cache(maxsize=1)
+def accepted_lines(case):
+    """The lines of an accepted case file. The buffers tried with one file come one after another, so one is kept."""
+    return ended(valued(*walk(case, True)).lines())
+
+
+def fitting(lines, room, refusal):
+    """The lines; or, where they are longer than the buffer, the refusal."""
+    if len(lines) > room:
+        raise refusal
+    return lines
+
+
+def valued_lines(case, room=ROOM):
+    """What valuing writes to a buffer of so many bytes. A refusal writes nothing."""
+    return fitting(accepted_lines(case), room, Refused(30, 0))
+
+
 def lines(case, room=ROOM):
-    """The bytes that the program writes for these, where its output buffer has so many: rules 13.2 and 13.3."""
+    """What is printed of a case file: its lines or the line of its refusal, rules 13.2 and 13.3. Where that one doesn't
+    fit the buffer either, it is the refusal that is answered."""
     try:
-        written = ended(valued(*walk(case, True)).lines())
-        if len(written) > room:
-            raise Refused(30, 0)
+        return valued_lines(case, room)
     except Refused as refusal:
-        return ended(['refused=%d,%d' % refusal.args])
-    return written
+        return fitting(ended(['refused=%d,%d' % refusal.args]), room, refusal)
 
 
 def ended(lines):
