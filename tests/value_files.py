@@ -2,9 +2,9 @@
 
     python3 tests/value_files.py --check [--files N] [--seed K]
 
-The program is run once for each file: those worked by hand (RULES section 14), those at a bound, damaged ones, and N
-drawn ones. What it prints as supplemental is also held to its limit (rule 11.4), and a member's line must not hang on
-the other members (rule 11.5).
+The program is run once for each file: those worked by hand (RULES section 14), those at a bound, damaged ones, those
+with two faults, and N drawn ones. What it prints as supplemental is also held to its limit (rule 11.4), and a member's
+line must not hang on the other members (rule 11.5).
 """
 import argparse
 import random
@@ -16,8 +16,10 @@ from itertools import zip_longest
 from pathlib import Path
 
 import case_oracle
+import commands
 from accuracy_search import largest_salary
-from case_files import ACCEPTING, cut, damaged, file, filled, good_files, heading, many, member, ranges, stray_bytes
+from case_files import (ACCEPTING, cut, damaged, file, filled, good_files, heading, many, member, ranges, stray_bytes,
+                        two_faults)
 from member_figures import (at_largest_benefit, dollars, drawn_member, drawn_plan, drawn_rates, drawn_weights,
                             extreme_cases, level_table, straying_cases)
 from oracle import BD, FINAL, METHOD_NAMES, MOST_ASSETS, MOST_SALARY, Member, Plan, short_table, table
@@ -220,6 +222,7 @@ def files(rng, count):
     yield from largest_figures()
     yield from balanced(rng)
     yield from damaged_files(rng)
+    yield from (case for case, _, _ in two_faults(200))
     yield from (case_file(*drawn_valued(rng, 1000)) for _ in range(5))
     yield from drawn_files(rng, count)
 
@@ -279,9 +282,8 @@ def check(count, seed):
         sys.exit(f'value_files: the files give the refusals {sorted(refused)}')
     if set(signs) != {(1, 1), (1, 0), (0, 0), (-1, 0), (-1, -1)}:
         sys.exit(f'value_files: the signs of unfunded and supplemental are {sorted(signs)}')
-    numbers = ', '.join(f'{number}: {refused[number]}' for number in sorted(refused))
     print(f'value_files: {refused.total() + signs.total()} files agree; {signs.total()} valued, '
-          f'{refused.total()} refused ({numbers})')
+          f'{refused.total()} refused ({commands.counted(refused)})')
 
 
 def main():
