@@ -182,7 +182,7 @@ class Fault(NamedTuple):
 
 
 def first_of(faults):
-    """The number and the line of the first: line by line, and in a line 2, 27, then rising number."""
+    """The number and the line of the first, rule 12.4: line by line, and in a line 2, 27, then rising number."""
     first = min(faults, key=lambda fault: (fault.line, {2: 0, 27: 1}.get(fault.number, fault.number)))
     return first.number, first.line
 
@@ -225,10 +225,10 @@ def row_range_faults(age, weight):
 
 
 def member_range_faults(lines, place):
-    _, id, entry, _, _ = parts_of(lines[place])
+    entry = int(parts_of(lines[place])[2])
     before = parts_of(lines[place - 1])[1] if place > 114 else b'0'
     said = [(1, b'0', 21), (1, b'1000000000', 21), (1, before, 21), (2, b'14', 22), (2, b'65', 22), (2, b'0', 22),
-            (3, b'%d' % (int(entry) - 1), 23), (3, b'66', 23), (4, b'1000000.01', 24), (4, b'999999999999.99', 24)]
+            (3, b'%d' % (entry - 1), 23), (3, b'66', 23), (4, b'1000000.01', 24), (4, b'999999999999.99', 24)]
     return [Fault(place + 1, part, text, number) for part, text, number in said]
 
 
