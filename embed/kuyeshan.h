@@ -10,10 +10,10 @@
  *   the sender of the file mends:
  *     1   over 65,536 bytes
  *     2   the file ends where a line, or the rest of one, is due
- *     3   bytes follow the end line
+ *     3   there are bytes after the end line
  *     4   the end line's number isn't the count of members
  *   the plan actuary mends:
- *     10  wrong key, form, word or row age
+ *     10  the key, the form, a word or the age of a row is wrong
  *     11  a number is outside its range
  *     12  the average doesn't suit the formula
  *     13  the row's three rates sum to over 1000000
@@ -29,7 +29,7 @@
  *     26  the accrued benefit falls from one age to the next
  *     27  a member line after 1,000 members
  *   the calling program mends:
- *     30  the output lines are longer than the buffer
+ *     30  what is to be printed is longer than the buffer
  *
  * Memory: all of it is the caller's. No pointer is null, not even with a length of 0, and what one of them points to
  * overlaps nothing that another one points to. The library keeps no pointer, allocates nothing and has no state, so

@@ -182,7 +182,7 @@ class Fault(NamedTuple):
 
 
 def first_of(faults):
-    """The number and the line of the first, rule 12.4: line by line, and in a line 2, 27, then rising number."""
+    """The number and the line of the first, rule 12.4: by lines, and for one line 2, then 27, then the smallest."""
     first = min(faults, key=lambda fault: (fault.line, {2: 0, 27: 1}.get(fault.number, fault.number)))
     return first.number, first.line
 

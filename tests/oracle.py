@@ -264,7 +264,7 @@ class Costs:
         return Figures(self.B(self.r), self.V(k), self.N(method, k), self.L(method, k))
 
     def future_cost_form(self, method, k):
-        """Rule 10.7, the benefits less the future normal costs: L's other form, where the factors are exact."""
+        """Rule 10.7, what the benefits are worth beyond the normal costs to come: L again, where the factors are exact."""
         future, staying = 0, 1
         for j in range(k, self.r):
             future += self.N(method, j) * staying

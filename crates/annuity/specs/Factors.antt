@@ -48,7 +48,7 @@ module _ (b : Basis) where
   unfoldable pub T* : ℕ → ℕ → Ratio
   T* k e = carried (λ j f. whole S ⊕ step* j f) (whole 0) k (e - k)
 
-  -- rule 8.7, the pay annuity Z(k,e): as T, with W(k) × S in the place of S (3.23)
+  -- rule 8.7, the pay annuity Z(k,e): as T, with W(k) × S in the place of S; W(k) times (3.23)
   unfoldable pub Z : ℕ → ℕ → ℕ
   Z k e = carried (λ j f. W j * S + step j f) 0 k (e - k)
 

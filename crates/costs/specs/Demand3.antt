@@ -1,4 +1,4 @@
--- Demand 3, both parts (rules 10.8 and 10.9), and roll-forward, for every sound case, each of the five methods and each age k from y through r.
+-- Demand 3, both parts (rules 10.8 and 10.9), for every sound case, each of the five methods and each age k from y through r; and roll-forward, at the ages below r.
 use Prim.Native.Nat.{ℕ, _+_, _*_, _≤_, _<_}
 use Rattle.fractions.specs.Ratio.{Ratio, _over_, whole, _⊕_, _⊗_, _≈_}
 use Rattle.fractions.specs.Fraction.{fraction, _⊖_, _≐_}

@@ -15,7 +15,7 @@ abbrev pub refusedBy : Valuation → ℕ
 refusedBy (Valued f) = 0
 refusedBy (Refused number line) = number
 
--- rule 9.11, B(r), V, N and L; rule 12.2, a refusal keeps what was there
+-- rules 9.11 and 13.2, B(r), V, N and L; rule 12.2, a refusal keeps what was there
 abbrev pub figuresAfter : Valuation → List ℕ → List ℕ
 figuresAfter (Valued f) old = f .benefit ∷ f .value ∷ f .cost ∷ f .liability ∷ []
 figuresAfter (Refused number line) old = old

@@ -148,6 +148,6 @@ pub record AcceptedMember (p : Plan) (rows : List (List ℕ)) (m : Member) : Typ
 unfoldable pub answer : ℕ → Acceptance
 answer number = cond (eqb number 0) Accepted (Refused number 0)
 
--- rule 5.5, a lone member: the plan's refusal comes first, and no id stands before its own
+-- rules 5.3 and 5.5, a lone member: the plan's refusal comes first, and no id stands before its own
 unfoldable pub loneRefusal : Plan → List (List ℕ) → Member → ℕ
 loneRefusal p rows m = firstOf (planRefusal p rows ∷ memberRefusal p rows 0 m ∷ [])

@@ -1,4 +1,4 @@
--- Sums of weights: rules 7.4, 7.5 and 9.4.
+-- Sums of weights: rule 9.4, and what the code of rules 7.4 and 7.5 adds up.
 use Prim.Native.Nat.{ℕ, zero, suc, _+_}
 
 -- the weights of the n ages from k on, summed
