@@ -1,5 +1,5 @@
-// Numbers, rules 1.3 to 1.6: every value function takes its whole part and answers only where all of it is a number, so that no
-// tail is dropped.
+// Numbers, rules 1.3 to 1.6: every value function takes its whole part and answers only where all of it is a number,
+// so that no tail is dropped.
 use crate::text::past;
 use crate::text::upto;
 ghost use mathlib.Core.Path.{_≡_};

@@ -1,6 +1,6 @@
-// The valuation of a whole plan: RULES sections 11 and 13. totals.rt works the figures of all members
-// and sums them, lines.rt writes the lines; specs/ has the totals, the lines and the answers. The entries are value_case,
-// refusal_line and print_case here, and those of the layers below, which are passed on: read_case, accept_case, accept_plan,
+// The valuation of a whole plan: RULES sections 11 and 13. totals.rt works the figures of all members and sums them,
+// lines.rt writes the lines; specs/ has the totals, the lines and the answers. The entries are value_case, refusal_line
+// and print_case here, and those of the layers below, which are passed on: read_case, accept_case, accept_plan,
 // accept_member, value_member. None has a `requires`.
 mod lines;
 mod totals;
