@@ -3,8 +3,9 @@
     python3 tests/accuracy_page.py --write    writes them
     python3 tests/accuracy_page.py --check    holds what is stored to them
 
-The limits are those of tests/oracle.py, the found ones those of tests/accuracy_found.tsv. A table of the page stands
-between a mark that names it and a mark that ends it; the words around it are the page's own.
+The limits are those of tests/oracle.py, which are held to the ones that are proved; the found ones are those of
+tests/accuracy_found.tsv. A table of the page stands between a mark that names it and a mark that ends it; the words
+around it are the page's own.
 """
 import re
 import sys
@@ -18,7 +19,9 @@ import commands
 from accuracy_found import PENSIONS
 from oracle import AB, BD, BP, CD, CP, LIMIT, METHOD_NAMES, METHODS, MOST_BENEFIT, SHARP, L, N, V, sharp_limit
 
-DOCS = Path(__file__).parent.parent / 'docs'
+ROOT = Path(__file__).parent.parent
+DOCS = ROOT / 'docs'
+PROVED = ROOT / 'crates' / 'costs' / 'specs' / 'Demand3.antt'
 PAGE, PICTURE = DOCS / 'ACCURACY.md', DOCS / 'accuracy.svg'
 WORDS = {V: 'present value', N: 'normal cost', L: 'liability'}
 # The weight of the age over that of entry: level pay, a usual scale, and the most that the rules allow.
@@ -37,6 +40,32 @@ def up(number):
 def down(number):
     """What was found in hundredths, never more than it was."""
     return f'{floor(100 * number) / 100:.2f}'
+
+
+# ---- the limits as they are proved
+
+NUMBER = r'(?:whole (\d+)|(\d+) over (\d+))'
+WEIGHTS = r'(\) ⊗ W c k over W c \(c \.y\))'
+STATED = re.compile(rf'^([VNL])-limit c ?([A-Z]{{2}})?(?: k)? = \(?{NUMBER} ⊕ {NUMBER} ⊗ b c{WEIGHTS}?$', re.MULTILINE)
+
+
+def ratio(whole, upper, lower):
+    return Fraction(int(whole)) if whole else Fraction(int(upper), int(lower))
+
+
+def proved_limits():
+    """By figure and method: the cents, the cents for each S of the benefit, and whether it is times the weights."""
+    for figure, method, *numbers, weights in STATED.findall(PROVED.read_text(encoding='utf-8')):
+        for code in METHODS:
+            if method in ('', METHOD_NAMES[code]):
+                yield (figure, code), (ratio(*numbers[:3]), ratio(*numbers[3:]), weights != '')
+
+
+def check_proved():
+    ours = {(figure, method): (*map(Fraction, SHARP[figure][method]), (figure, method) == (N, CP))
+            for figure in SHARP for method in METHODS}
+    if dict(proved_limits()) != ours:
+        sys.exit(f'accuracy_page: the limits of tests/oracle.py are not those of {PROVED.name}')
 
 
 # ---- the tables
@@ -224,8 +253,8 @@ def picture(found):
         '<title>How far a printed figure can lie from the exact one</title>',
         f'<rect width="{WIDTH}" height="{HEIGHT}" fill="white"/>',
         text(30, 36, 'How far a printed figure can lie from the exact one, in cents', 20, 'start', weight='bold'),
-        text(30, 60, 'Lines: the proved limit. Marks: the farthest that a search found. Both scales are logarithmic.',
-             13, 'start'),
+        text(30, 60, 'Lines: the proved limits. Marks: the farthest found, those of one pension side by side, right of its '
+             'line. Both scales are logarithmic.', 12, 'start'),
     ]
     for j, panel in enumerate(PANELS):
         parts.append(f'<g transform="translate({LEFT + NEXT_LEFT * (j % 2)} {TOP + NEXT_TOP * (j // 2)})">')
@@ -240,9 +269,11 @@ def files():
     return {PAGE: page(found).encode(), PICTURE: picture(found).encode()}
 
 
-def say():
-    print(f'accuracy_page: the tables of {PAGE.name} and {PICTURE.name} are made from the limits and what was found')
+def check():
+    check_proved()
+    print(f'accuracy_page: the limits are the proved ones; the tables of {PAGE.name} and {PICTURE.name} are made from '
+          f'them and from what was found')
 
 
 if __name__ == '__main__':
-    commands.run('accuracy_page', __doc__, files, say)
+    commands.run('accuracy_page', __doc__, files, check)
