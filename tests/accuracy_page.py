@@ -253,8 +253,8 @@ def picture(found):
         '<title>How far a printed figure can lie from the exact one</title>',
         f'<rect width="{WIDTH}" height="{HEIGHT}" fill="white"/>',
         text(30, 36, 'How far a printed figure can lie from the exact one, in cents', 20, 'start', weight='bold'),
-        text(30, 60, 'Lines: the proved limits. Marks: the farthest found, those of one pension side by side, right of its '
-             'line. Both scales are logarithmic.', 12, 'start'),
+        text(30, 60, 'Lines: the proved limits. Marks: the farthest found, those of one pension side by side, right of '
+             'its line. Both scales are logarithmic.', 12, 'start'),
     ]
     for j, panel in enumerate(PANELS):
         parts.append(f'<g transform="translate({LEFT + NEXT_LEFT * (j % 2)} {TOP + NEXT_TOP * (j // 2)})">')
