@@ -22,6 +22,7 @@ import shutil
 import signal
 import subprocess
 import sys
+import traceback
 from pathlib import Path
 
 ROOT = Path(__file__).resolve().parent.parent
@@ -162,10 +163,10 @@ def is_whole(written):
 def words():
     """By number: who mends it, and what is wrong."""
     try:
-        lines = [line.split('\t') for line in WORDS.read_text().splitlines()[1:]]
-    except OSError as error:
+        lines = [line.split('\t') for line in WORDS.read_text(encoding='utf-8').splitlines()[1:]]
+        return {int(number): (who, what) for number, who, what in lines}
+    except (OSError, ValueError) as error:
         stop(f"the words of the refusals can't be read: {error}")
-    return {int(number): (who, what) for number, who, what in lines}
 
 
 def quoted(line):
@@ -282,4 +283,8 @@ def main(names):
 if __name__ == '__main__':
     # An interrupt ends this command as it ends others, with no words of Python's.
     signal.signal(signal.SIGINT, signal.SIG_DFL)
-    sys.exit(main(sys.argv[1:]))
+    try:
+        sys.exit(main(sys.argv[1:]))
+    except Exception:
+        # Python's own status would be 1, and 1 means a refusal.
+        stop(f"a fault of this command's own\n{traceback.format_exc().rstrip()}")

@@ -473,8 +473,26 @@ def check_broken_program(copy, table):
     copy.program.chmod(0o755)
     table_file = copy.repository / 'bin' / 'refusals.tsv'
     table_file.unlink()
-    hold('no words', copy.run(stdin=GOOD), 2, b'', "value: the words of the refusals can't be read: "
-         f"[Errno {errno.ENOENT}] {os.strerror(errno.ENOENT)}: '{table_file}'\n")
+    unread_words = "value: the words of the refusals can't be read: "
+    hold('no words', copy.run(stdin=GOOD), 2, b'',
+         f"{unread_words}[Errno {errno.ENOENT}] {os.strerror(errno.ENOENT)}: '{table_file}'\n")
+    for what, more, why in (
+            ('a blank line among the words', b'\n', 'not enough values to unpack (expected 3, got 1)'),
+            ('a byte among the words that is no letter', b'\xff',
+             f"'utf-8' codec can't decode byte 0xff in position {len(TABLE.read_bytes())}: invalid start byte")):
+        table_file.write_bytes(TABLE.read_bytes() + more)
+        hold(what, copy.run(stdin=GOOD), 2, b'', f'{unread_words}{why}\n')
+
+
+def check_own_fault(copy):
+    """A fault that nobody foresaw is no refusal."""
+    command = copy.repository / 'bin' / 'value.py'
+    begins = b'def main(names):\n'
+    command.write_bytes(command.read_bytes().replace(begins, begins + b"    raise ValueError('unforeseen')\n"))
+    ran = copy.run(stdin=GOOD)
+    first, *_, last = ran.stderr.splitlines(keepends=True)
+    ran.stderr = first + last
+    hold("a fault of the command's own", ran, 2, b'', "value: a fault of this command's own\nValueError: unforeseen\n")
 
 
 # ---- the words
@@ -551,6 +569,7 @@ def check():
         check_not_built(copy)
         check_forbidden(copy)
         check_broken_program(copy, table)
+        check_own_fault(copy)
     print(f'desk: {len(held)} uses of the command hold; {len(table)} refusals have the same words in each place')
 
 
