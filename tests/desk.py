@@ -213,12 +213,14 @@ def check_several(desk):
 
 
 def check_names(desk):
-    """No name can end its line, and one that can be shown is written as it is."""
+    """No name can end its line, and one that can be shown is written as it is, whatever letters the locale knows."""
+    ascii_only = {**os.environ, 'LC_ALL': 'C', 'PYTHONUTF8': '0', 'PYTHONCOERCECLOCALE': '0'}
     for name, shown in ((b'two\nlines.case', rb'two\nlines.case'), (b'byte\xff.case', rb'byte\udcff.case'),
                         ('Öl.case'.encode(), 'Öl.case'.encode()), (b'==> x <==', b'==> x <==')):
         (desk / os.fsdecode(name)).write_bytes(GOOD)
-        hold(f'the name {shown}', run(name, 'good.case', cwd=desk), 0,
-             headed((shown, GOOD_LINES), (b'good.case', GOOD_LINES)))
+        for env in (os.environ, ascii_only):
+            hold(f'the name {shown}', run(name, 'good.case', cwd=desk, env=env), 0,
+                 headed((shown, GOOD_LINES), (b'good.case', GOOD_LINES)))
 
 
 def check_folders(desk):
@@ -252,7 +254,10 @@ def check_unread(desk):
     closed = run(stdin=None, preexec_fn=lambda: os.close(0))
     hold('standard input that is closed', closed, 2, b'', unread('standard input', errno.EBADF))
     folder = os.open(desk, os.O_RDONLY)
-    hold('standard input that is a folder', run(stdin=folder), 2, b'', unread('standard input', errno.EISDIR))
+    hold('standard input that is a folder', run(stdin=folder), 2, b'', unread('standard input', errno.EBADF))
+    hold('and is not wanted', run('good.case', cwd=desk, stdin=folder), 0, GOOD_LINES)
+    hold('and is wanted too', run('good.case', '-', cwd=desk, stdin=folder), 2, headed((b'good.case', GOOD_LINES)),
+         unread('standard input', errno.EBADF))
     os.close(folder)
     reading, writing = os.pipe()
     os.set_blocking(reading, False)
@@ -292,6 +297,11 @@ def check_unwritten(desk):
         sys.exit('desk: the disk that fills was to be written in part')
     hold('standard output that is closed', run('good.case', cwd=desk, stdout=None, preexec_fn=lambda: os.close(1)), 2,
          b'', unwritten(errno.EBADF))
+    folder = os.open(desk, os.O_RDONLY)
+    hold('standard output that is a folder', run('good.case', cwd=desk, stdout=folder), 2, b'', unwritten(errno.EBADF))
+    hold('standard error that is a folder', run('good.case', cwd=desk, stderr=folder), 0, GOOD_LINES)
+    hold('and is wanted', run('bad.case', cwd=desk, stderr=folder), 2, b'refused=20,115\n')
+    os.close(folder)
     reading, writing = os.pipe()
     os.close(reading)
     hold('a reader that left', run('good.case', 'bad.case', cwd=desk, stdout=writing), 2)
@@ -436,14 +446,29 @@ def check_not_built(copy):
     hold('proved, and no program', copy.run(stdin=GOOD), 2, b'',
          f'{BUILDING}value: rt counts the program as built, but it is gone: remove the folder target/ and try again\n')
     copy.hold_calls('proved, and no program', 1)
+    copy.rt_does('')
+
+
+def check_bare_path(copy):
+    """Commands that are missing or unfit."""
     bare = copy.folder / 'bare'
     bare.mkdir()
-    hold('no python3', copy.run(stdin=GOOD, env={'PATH': str(bare)}), 2, b'', 'value: python3 is not on the PATH\n')
-    for name in ('python3', 'readlink', 'dirname'):
+    python, no_python = shutil.which('python3'), "value: python3 is missing, can't start or is older than 3.9\n"
+
+    def hold_bare(what, err, **more):
+        hold(what, copy.run(stdin=GOOD, env={'PATH': str(bare), **more}), 2, b'', err)
+
+    for name in ('readlink', 'dirname'):
         (bare / name).symlink_to(shutil.which(name))
-    hold('no rt', copy.run(stdin=GOOD, env={'PATH': str(bare)}), 2, b'', 'value: the program has to be proved and '
-         "built, and the Rattle toolchain's command rt is not on the PATH\n")
-    copy.rt_does('')
+    hold_bare('no python3', no_python)
+    copy.script(bare / 'python3', 'before="import sys; sys.version_info = 3, 8, 20"\n'
+                f'[ "$1" = -c ] && exec "{python}" -c "$before; $2"\nexec "{python}" "$@"')
+    hold_bare('an old python3', no_python)
+    (bare / 'python3').unlink()
+    (bare / 'python3').symlink_to(python)
+    hold_bare('a python3 that breaks', no_python, PYTHONHOME=str(copy.folder / 'missing'))
+    hold_bare('no rt', "value: the program has to be proved and built, and the Rattle toolchain's command rt is not on "
+              'the PATH\n')
 
 
 def check_broken_program(copy, table):
@@ -567,6 +592,7 @@ def check():
         check_edit_meanwhile(copy)
         check_at_once(copy)
         check_not_built(copy)
+        check_bare_path(copy)
         check_forbidden(copy)
         check_broken_program(copy, table)
         check_own_fault(copy)
