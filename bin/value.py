@@ -36,6 +36,9 @@ MOST_BYTES = 65536
 MOST_SHOWN = 80
 REFUSAL = re.compile(rb'refused=([0-9]+),([0-9]+)\n')
 MARKS = codecs.BOM_UTF8, codecs.BOM_UTF16_LE, codecs.BOM_UTF16_BE
+# The refusals that bytes put in on the file's way bring about, and one that its sender mends.
+OF_FORM = 2, 10, 20
+OF_SENDER = 2
 
 
 # ---- reading and writing: a failure is an error, and never a shorter file
@@ -183,16 +186,21 @@ def hints(case, line):
         yield 'the file begins with a byte-order mark; save it as plain text without one'
 
 
+def mended(number, hint):
+    """Who mends a refusal. Where the hint isn't its cause, it is what is wrong besides."""
+    if hint and number in OF_FORM:
+        return f'{words()[OF_SENDER][0]} mends it: {hint}'
+    return f'{words()[number][0]} mends it' + (f'; also, {hint}' if hint else '')
+
+
 def explained(name, case, number, place):
     """A refusal in words. Its line is quoted where it has one, and where that line has begun."""
-    who, what = words()[number]
+    _, what = words()[number]
     lines = case.split(b'\n')
     line = b''.join(lines[place - 1:place])
     where = f'{name}:{place}' if place else name
     quote = f': {quoted(line)}' if place and (line or place < len(lines)) else ''
-    found = '; '.join(hints(case, line))
-    mends = f'the sender of the file mends it: {found}' if found else f'{who} mends it'
-    return f'{where}: refused {number}, {what}{quote} ({mends})'
+    return f'{where}: refused {number}, {what}{quote} ({mended(number, "; ".join(hints(case, line)))})'
 
 
 # ---- the command

@@ -31,6 +31,7 @@ RULES = ACCEPTING | {26, 30}
 SENDER, ACTUARY, PAYROLL = 'the sender of the file', 'the plan actuary', 'the payroll office'
 CR = 'the line ends in CR, byte 13; save the file with line ends LF'
 MARK = 'the file begins with a byte-order mark; save it as plain text without one'
+UTF8 = b'\xef\xbb\xbf'
 USAGE = 'usage: value [FILE | DIR | -]..\n'
 NOBODY = 65534
 
@@ -166,7 +167,6 @@ def check_refused(desk, table):
 
 def check_hints(table):
     """Bytes that a program put in on the file's way: the sender is told, and nobody else is blamed."""
-    utf8, utf16 = b'\xef\xbb\xbf', b'\xff\xfe'
     ended = GOOD.replace(b'\n', b'\r\n')
     first = 'interest=1000'
     for what, case, number, line, quote, hint in (
@@ -176,12 +176,27 @@ def check_hints(table):
             ('CR LF after a row', edited(l9='row=15,0,0,0,1000\r'), 10, 9, r'"row=15,0,0,0,1000\r"', CR),
             ('CR LF after a member', edited(l115='member=7,63,64,0.00\r'), 20, 115, r'"member=7,63,64,0.00\r"', CR),
             ('CR LF at the end', edited(l116='end=1\r'), 20, 116, r'"end=1\r"', CR),
-            ('a byte-order mark', utf8 + GOOD, 10, 1, rf'"\xef\xbb\xbf{first}"', MARK),
-            ('both', utf8 + ended, 10, 1, rf'"\xef\xbb\xbf{first}\r"', f'{CR}; {MARK}'),
-            ('two bytes a letter', utf16 + GOOD.decode().encode('utf-16-le'), 10, 1,
-             r'"\xff\xfe' + ''.join(letter + r'\x00' for letter in first) + '"', MARK)):
+            ('a byte-order mark', UTF8 + GOOD, 10, 1, rf'"\xef\xbb\xbf{first}"', MARK),
+            ('both', UTF8 + ended, 10, 1, rf'"\xef\xbb\xbf{first}\r"', f'{CR}; {MARK}'),
+            ('two bytes a letter', b'\xff\xfe' + GOOD.decode().encode('utf-16-le'), 10, 1,
+             r'"\xff\xfe' + ''.join(letter + r'\x00' for letter in first) + '"', MARK),
+            ('two bytes a letter, the other way', b'\xfe\xff' + GOOD.decode().encode('utf-16-be'), 10, 1,
+             r'"\xfe\xff' + ''.join(r'\x00' + letter for letter in first) + r'\x00"', MARK)):
         hold(what, run(stdin=case), 1, f'refused={number},{line}\n'.encode(),
              f'standard input:{line}: refused {number}, {table[number][1]}: {quote} ({SENDER} mends it: {hint})\n')
+
+
+def check_besides(table):
+    """The same bytes where they aren't the cause: who can mend that is still named."""
+    crowd = many(1001).split(b'\n')
+    last = crowd[1114]
+    crowd[1114] += b'\r'
+    for what, case, number, who, where, quote, hint in (
+            ('CR after a member too many', b'\n'.join(crowd), 27, PAYROLL, ':1115', rf': "{last.decode()}\r"', CR),
+            ('CR after the end line', GOOD + b'\r', 3, SENDER, ':117', r': "\r"', CR),
+            ('a byte-order mark and too many bytes', UTF8 + filled(65536), 1, SENDER, '', '', MARK)):
+        hold(what, run(stdin=case), 1, f'refused={number},{where[1:] or 0}\n'.encode(),
+             f'standard input{where}: refused {number}, {table[number][1]}{quote} ({who} mends it; also, {hint})\n')
 
 
 def check_quotes():
@@ -580,6 +595,7 @@ def check():
         check_links(desk)
         check_refused(desk, table)
         check_hints(table)
+        check_besides(table)
         check_quotes()
         check_several(desk)
         check_names(desk)
