@@ -91,23 +91,34 @@ def close_output():
 
 # ---- the proved program
 
+def fail(error):
+    raise error
+
+
+def sources():
+    """Every file of every crate: which of them the program rests on is rt's matter, and rt is quick to tell."""
+    yield ROOT / 'crates.txt'
+    # By itself os.walk passes over a folder that can't be read.
+    for folder, _, files in sorted(os.walk(ROOT / 'crates', onerror=fail)):
+        for path in (os.path.join(folder, file) for file in sorted(files)):
+            # An editor may lock a file by a link to nowhere, which is none.
+            if os.path.exists(path) or not os.path.islink(path):
+                yield path
+
+
 def digest_of_sources():
-    """Of every file of every crate: which of them the program rests on is rt's matter, and rt is quick to tell."""
     digest = hashlib.sha256()
-    folders = sorted(os.walk(ROOT / 'crates'))
-    paths = [os.path.join(folder, file) for folder, _, files in folders for file in sorted(files)]
-    # An editor may lock a file by a link to nowhere, which is none.
-    for path in (ROOT / 'crates.txt', *filter(os.path.isfile, paths)):
+    for path in sources():
         with open(path, 'rb') as file:
             content = file.read()
-        digest.update(f'{os.path.relpath(path, ROOT)}\n{len(content)}\n'.encode(errors='surrogateescape'))
-        digest.update(content)
+        # No name has a byte 0, and with the length it is known where the next one begins.
+        digest.update(b'%s\0%d\0%s' % (os.fsencode(os.path.relpath(path, ROOT)), len(content), content))
     return digest.hexdigest()
 
 
-def stamp(sources):
+def stamp(digest):
     """The program belongs to it: another command may have built it from other sources since."""
-    return f'{sources} {hashlib.sha256(PROGRAM.read_bytes()).hexdigest()}\n'.encode()
+    return f'{digest} {hashlib.sha256(PROGRAM.read_bytes()).hexdigest()}\n'.encode()
 
 
 def is_built():
@@ -116,7 +127,7 @@ def is_built():
 
 def build():
     # Taken before the proof: an edit while it runs must not count as proved.
-    sources = digest_of_sources()
+    digest = digest_of_sources()
     rt = shutil.which('rt')
     if rt is None:
         stop("the program has to be proved and built, and the Rattle toolchain's command rt is not on the PATH")
@@ -128,7 +139,7 @@ def build():
         stop('the program is not proved and built: rt check value failed')
     if not PROGRAM.exists():
         stop('rt counts the program as built, but it is gone: remove the folder target/ and try again')
-    STAMP.write_bytes(stamp(sources))
+    STAMP.write_bytes(stamp(digest))
 
 
 @functools.cache
@@ -172,10 +183,15 @@ def words():
         stop(f"the words of the refusals can't be read: {error}")
 
 
+def escaped(data):
+    """Bytes as a terminal can show them."""
+    return data.decode('latin-1').encode('unicode_escape').decode()
+
+
 def quoted(line):
-    """A line as a terminal can show it, and not too much of it."""
-    shown = line[:MOST_SHOWN].decode('latin-1').encode('unicode_escape').decode().replace('"', '\\"')
-    return f'"{shown}"' if len(line) <= MOST_SHOWN else f'"{shown}".. of {len(line)} bytes'
+    """A line, and not too much of it."""
+    text = escaped(line[:MOST_SHOWN]).replace('"', '\\"')
+    return f'"{text}"' if len(line) <= MOST_SHOWN else f'"{text}".. of {len(line)} bytes'
 
 
 def hints(case, line):
@@ -209,7 +225,9 @@ def shown(name):
     """A file's name in a line of its own: no byte of it may end that line."""
     if name == '-':
         return 'standard input'
-    return name if name.isprintable() else name.encode('unicode_escape').decode()
+    if name.isprintable():
+        return name or "''"
+    return escaped(os.fsencode(name))
 
 
 def failed(name, why):
@@ -265,7 +283,7 @@ def wrong_use(names):
     """What is wrong with the arguments, if anything is."""
     options = [name for name in names if name.startswith('-') and name != '-']
     if options:
-        return f'there is no option {options[0]}'
+        return f'there is no option {shown(options[0])}'
     if names.count('-') > 1:
         return 'standard input can be read once'
     if not names and os.isatty(0):

@@ -40,7 +40,7 @@ GOOD_LINES = (EXAMPLES / 'short.lines').read_bytes()
 BAD = GOOD.replace(b'member=7,63,64,0.00', b'member=7,63,64,4125.50.75')
 BAD_SAID = (':115: refused 20, neither a member nor an end line, or its form is wrong: "member=7,63,64,4125.50.75" '
             '(the payroll office mends it)\n')
-held = []
+held, left_out = [], []
 
 
 # ---- running and comparing
@@ -73,6 +73,10 @@ def unread(name, number):
 
 def unwritten(number):
     return f"value: standard output can't be written: {os.strerror(number)}\n"
+
+
+def unbuilt(number, path):
+    return f"value: the program can't be built: [Errno {number}] {os.strerror(number)}: '{path}'\n"
 
 
 # ---- good input
@@ -230,7 +234,7 @@ def check_several(desk):
 def check_names(desk):
     """No name can end its line, and one that can be shown is written as it is, whatever letters the locale knows."""
     ascii_only = {**os.environ, 'LC_ALL': 'C', 'PYTHONUTF8': '0', 'PYTHONCOERCECLOCALE': '0'}
-    for name, shown in ((b'two\nlines.case', rb'two\nlines.case'), (b'byte\xff.case', rb'byte\udcff.case'),
+    for name, shown in ((b'two\nlines.case', rb'two\nlines.case'), (b'byte\xff.case', rb'byte\xff.case'),
                         ('Öl.case'.encode(), 'Öl.case'.encode()), (b'==> x <==', b'==> x <==')):
         (desk / os.fsdecode(name)).write_bytes(GOOD)
         for env in (os.environ, ascii_only):
@@ -263,6 +267,7 @@ def check_folders(desk):
 
 def check_unread(desk):
     hold('a missing file', run('missing.case', cwd=desk), 2, b'', unread('missing.case', errno.ENOENT))
+    hold('an empty name', run(''), 2, b'', unread("''", errno.ENOENT))
     hold('a read that fails', run('/proc/self/mem'), 2, b'', unread('/proc/self/mem', errno.EIO))
     with open('/proc/self/mem', 'rb') as broken:
         hold('standard input that fails', run(stdin=broken), 2, b'', unread('standard input', errno.EIO))
@@ -283,17 +288,36 @@ def check_unread(desk):
     os.close(writing)
 
 
+def can_run(copy, who):
+    """The way to the copy, or to Python, may be closed to nobody."""
+    try:
+        return copy.run('--help', **who).returncode == 0
+    except PermissionError:
+        return False
+
+
 def check_forbidden(copy):
     """Root may read all: then nobody runs the command."""
+    who = dict(user=NOBODY, group=NOBODY, extra_groups=[]) if os.geteuid() == 0 else {}
+    if not can_run(copy, who):
+        left_out.append('what may not be read, since nobody can come to the command')
+        return
     copy.answers(GOOD_LINES)
     copy.run(stdin=GOOD)
     locked = copy.folder / 'locked.case'
     locked.write_bytes(GOOD)
     locked.chmod(0)
-    who = dict(user=NOBODY, group=NOBODY, extra_groups=[]) if os.geteuid() == 0 else {}
     hold('a file that may not be read', copy.run('locked.case', cwd=copy.folder, **who), 2, b'',
          unread('locked.case', errno.EACCES))
-    locked.unlink()
+    folder = copy.source.parent / 'locked'
+    folder.mkdir()
+    (folder / 'more.rt').touch()
+    # In the second one names can be read, and no files.
+    for mode, path in ((0, folder), (0o444, folder / 'more.rt')):
+        folder.chmod(mode)
+        hold('a source that may not be read', copy.run(stdin=GOOD, **who), 2, b'', unbuilt(errno.EACCES, path))
+    folder.chmod(0o755)
+    shutil.rmtree(folder)
 
 
 # ---- what can't be written
@@ -331,8 +355,8 @@ def check_use():
         sys.exit(f'desk: --help gives {helped}')
     held.append('--help')
     hold('-h', run('-h', 'missing.case'), 0, helped.stdout)
-    for name in ('--version', '-x', '--'):
-        hold(f'the option {name}', run(name, stdin=GOOD), 2, b'', f'value: there is no option {name}\n{USAGE}')
+    for name, shown in (('--version', '--version'), ('-x', '-x'), ('--', '--'), ('-\x1b[31m', r'-\x1b[31m')):
+        hold(f'the option {shown}', run(name, stdin=GOOD), 2, b'', f'value: there is no option {shown}\n{USAGE}')
     hold('- twice', run('-', '-', stdin=GOOD), 2, b'', f'value: standard input can be read once\n{USAGE}')
     ours, terminal = pty.openpty()
     hold('no name at a terminal', run(stdin=terminal, timeout=60), 2, b'',
@@ -415,6 +439,12 @@ def check_rebuilt(copy):
     hold_built('a source of another name', 1)
     (copy.source.parent / 'other.rt').unlink()
     hold_built('a source that is gone', 1)
+    (copy.source.parent / 'other.rt').write_text('fn other() {}\n')
+    hold_built('two sources', 1)
+    # The same bytes in the same order, in one file.
+    copy.source.write_text(f'{copy.source.read_text()}crates/value/src/other.rt\0fn other() {{}}\n')
+    (copy.source.parent / 'other.rt').unlink()
+    hold_built('one source that reads as two', 1)
     (copy.repository / 'crates.txt').write_text('value: io\n')
     hold_built('crates.txt changed', 1)
     copy.program.write_text('another one, built from other sources since\n')
@@ -462,6 +492,11 @@ def check_not_built(copy):
          f'{BUILDING}value: rt counts the program as built, but it is gone: remove the folder target/ and try again\n')
     copy.hold_calls('proved, and no program', 1)
     copy.rt_does('')
+    crates = copy.repository / 'crates'
+    crates.rename(copy.folder / 'crates')
+    hold('no sources', copy.run(stdin=GOOD), 2, b'', unbuilt(errno.ENOENT, crates))
+    copy.hold_calls('no sources', 0)
+    (copy.folder / 'crates').rename(crates)
 
 
 def check_bare_path(copy):
@@ -612,7 +647,8 @@ def check():
         check_forbidden(copy)
         check_broken_program(copy, table)
         check_own_fault(copy)
-    print(f'desk: {len(held)} uses of the command hold; {len(table)} refusals have the same words in each place')
+    print(f'desk: {len(held)} uses of the command hold; {len(table)} refusals have the same words in each place',
+          *left_out, sep='; left out is ')
 
 
 if __name__ == '__main__':
