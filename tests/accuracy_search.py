@@ -184,8 +184,11 @@ def all_found(rounds=30, seed=1):
 
 
 if __name__ == '__main__':
-    if sys.argv[1:] == ['--write']:
+    given = sys.argv[1:]
+    if given == ['--write']:
         accuracy_found.write(list(all_found()))
-    else:
-        for _ in all_found(*map(int, sys.argv[1:])):
+    elif len(given) <= 2 and all(map(str.isdecimal, given)):
+        for _ in all_found(*map(int, given)):
             pass
+    else:
+        sys.exit(__doc__)

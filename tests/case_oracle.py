@@ -4,7 +4,7 @@ An answer is None where the file is read, or accepted, and else the refusal's nu
 """
 import re
 
-from oracle import AGES, FIRST, Member, Plan, first, refusal_of_member, refusal_of_row, refusals_of_head
+from oracle import AGES, Member, Plan, refusal_of_member, refusal_of_row, refusals_of_head
 
 MOST_BYTES = 65536
 MOST_MEMBERS = 1000
