@@ -4,7 +4,8 @@
 
 Good and bad input goes to the command as it stands in the repository, over the proved program. What a broken program or
 a changed source does is tried in a copy of the command, where a small script takes the place of rt and another one that
-of the program. The words of the refusals are those of bin/refusals.tsv, in README.md and embed/kuyeshan.h too.
+of the program. The words of the refusals are those of bin/refusals.tsv, in README.md and embed/kuyeshan.h too; and who
+mends them is also that of docs/RULES.md.
 """
 import errno
 import os
@@ -16,6 +17,7 @@ import signal
 import subprocess
 import sys
 import tempfile
+from itertools import zip_longest
 from pathlib import Path
 
 from case_files import ACCEPTING, filled, many
@@ -23,7 +25,6 @@ from value_oracle import lines
 
 ROOT = Path(__file__).resolve().parent.parent
 COMMAND = ROOT / 'bin' / 'value'
-PROGRAM = ROOT / 'target' / 'bin' / 'value'
 EXAMPLES = ROOT / 'examples'
 TABLE = ROOT / 'bin' / 'refusals.tsv'
 # What the rules list. No file gives 26, since weights never fall, nor 30, since the program's buffer holds all outputs.
@@ -83,9 +84,7 @@ def unbuilt(number, path):
 
 def check_valued(desk):
     for example in sorted(EXAMPLES.glob('*.case')):
-        with open(example) as case:
-            plain = subprocess.run([PROGRAM], stdin=case, stdout=subprocess.PIPE, check=True).stdout
-        hold(example.name, run(example), 0, plain)
+        hold(example.name, run(example), 0, example.with_suffix('.lines').read_bytes())
     hold('no name', run(stdin=GOOD), 0, GOOD_LINES)
     hold('the name -', run('-', stdin=GOOD), 0, GOOD_LINES)
     hold('a file and not standard input', run('good.case', cwd=desk, stdin=BAD), 0, GOOD_LINES)
@@ -261,6 +260,12 @@ def check_folders(desk):
     (folder / 'c.case').symlink_to('nowhere')
     hold('a folder with three', run('folder/', cwd=desk), 2, both,
          'folder/a.case' + BAD_SAID + unread('folder/c.case', errno.ENOENT))
+    many_files = desk / 'many'
+    many_files.mkdir()
+    for name in 'gcajebhdif':
+        (many_files / f'{name}.case').write_bytes(GOOD)
+    hold('a folder with ten', run('many', cwd=desk), 0,
+         headed(*((b'many/%c.case' % name, GOOD_LINES) for name in b'abcdefghij')))
 
 
 # ---- what can't be read
@@ -376,6 +381,7 @@ class Copy:
 
     def __init__(self, folder):
         self.folder, self.repository, self.calls = folder, folder / 'repository', folder / 'calls'
+        self.input = folder / 'input'
         self.source, self.program = self.repository / 'crates/value/src/main.rt', self.repository / 'target/bin/value'
         self.command, self.env = self.repository / 'bin/value', with_path(folder / 'path')
         for made in (self.source.parent, self.repository / 'bin', folder / 'path'):
@@ -393,9 +399,9 @@ class Copy:
         self.script(self.folder / 'path' / 'rt', f'echo "$PWD $*" >> "{self.calls}"\n{build}\n{more}')
 
     def answers(self, answer, then=''):
-        """The next build's program reads its input and writes these bytes."""
+        """The next build's program keeps its input and writes these bytes."""
         (self.folder / 'answer').write_bytes(answer)
-        self.script(self.folder / 'program', f'cat > /dev/null\ncat "{self.folder / "answer"}"\n{then}')
+        self.script(self.folder / 'program', f'cat > "{self.input}"\ncat "{self.folder / "answer"}"\n{then}')
 
     @staticmethod
     def script(path, body):
@@ -407,8 +413,9 @@ class Copy:
 
     def hold_calls(self, what, count):
         """So many calls since the last time, each the one that builds the program."""
-        if self.calls.read_text() != f'{self.repository} check value\n' * count:
-            sys.exit(f'desk: {what}: rt is called\n{self.calls.read_text()}and should be {count} times')
+        calls = self.calls.read_text(encoding='utf-8')
+        if calls != f'{self.repository} check value\n' * count:
+            sys.exit(f'desk: {what}: rt is called\n{calls}and should be {count} times')
         self.calls.write_text('')
 
 
@@ -442,7 +449,7 @@ def check_rebuilt(copy):
     (copy.source.parent / 'other.rt').write_text('fn other() {}\n')
     hold_built('two sources', 1)
     # The same bytes in the same order, in one file.
-    copy.source.write_text(f'{copy.source.read_text()}crates/value/src/other.rt\0fn other() {{}}\n')
+    copy.source.write_bytes(copy.source.read_bytes() + b'crates/value/src/other.rt\0fn other() {}\n')
     (copy.source.parent / 'other.rt').unlink()
     hold_built('one source that reads as two', 1)
     (copy.repository / 'crates.txt').write_text('value: io\n')
@@ -466,11 +473,26 @@ def check_edit_meanwhile(copy):
     copy.hold_calls('an edit while it is proved', 2)
 
 
+def check_while_built(copy):
+    """rt takes nothing of standard input, and an interrupt says nothing."""
+    copy.rt_does('cat > /dev/null')
+    copy.source.write_text('fn main() { 5; }\n')
+    (copy.folder / 'good.case').write_bytes(GOOD)
+    hold('rt reads', copy.run('good.case', '-', cwd=copy.folder, stdin=GOOD), 0,
+         headed((b'good.case', GOOD_LINES), (b'standard input', GOOD_LINES)), BUILDING)
+    if copy.input.read_bytes() != GOOD:
+        sys.exit('desk: rt reads: the program has not all of standard input')
+    copy.rt_does('kill -INT $PPID')
+    copy.source.write_text('fn main() { 6; }\n')
+    hold('an interrupt', copy.run(stdin=GOOD), -signal.SIGINT, b'', BUILDING)
+    copy.hold_calls('while it is built', 2)
+    copy.rt_does('')
+
+
 def check_at_once(copy):
     """One builds, and the others wait for it."""
     copy.rt_does('sleep 1')
     copy.source.write_text('fn main() { 3; }\n')
-    (copy.folder / 'good.case').write_bytes(GOOD)
     started = [subprocess.Popen([copy.command, copy.folder / 'good.case'], env=copy.env, stdout=subprocess.PIPE,
                                 stderr=subprocess.DEVNULL) for _ in range(3)]
     for one in started:
@@ -574,7 +596,7 @@ def check_own_fault(copy):
 
 def words():
     """By number, who mends it and what is wrong; in the order of the table."""
-    first, *rest = [line.split('\t') for line in TABLE.read_text().splitlines()]
+    first, *rest = [line.split('\t') for line in TABLE.read_text(encoding='utf-8').splitlines()]
     if first != ['number', 'who mends it', 'what is wrong'] or sorted(rest, key=lambda line: int(line[0])) != rest:
         sys.exit(f'desk: {TABLE.name} is out of order')
     table = {int(number): (who, what) for number, who, what in rest}
@@ -585,7 +607,7 @@ def words():
 
 def said_in_readme():
     """The rows of its table. One without a name has that of the row above."""
-    part = (ROOT / 'README.md').read_text().split('## When a file is refused\n')[1].split('\n## ')[0]
+    part = (ROOT / 'README.md').read_text(encoding='utf-8').split('## When a file is refused\n')[1].split('\n## ')[0]
     who = ''
     for named, number, what in re.findall(r'^\| (.*?) ?\| ([0-9]+) \| (.*) \|$', part, re.MULTILINE):
         who = named or who
@@ -595,23 +617,30 @@ def said_in_readme():
 def said_in_header():
     """A line that ends in `mends:`, and after it the numbers that this one can mend."""
     who = ''
-    for line in (ROOT / 'embed' / 'kuyeshan.h').read_text().split('*/')[0].splitlines():
+    for line in (ROOT / 'embed' / 'kuyeshan.h').read_text(encoding='utf-8').split('*/')[0].splitlines():
         if named := re.fullmatch(r' \*   (the .*) mends:', line):
             who = named[1]
         elif found := re.fullmatch(r' \*     ([0-9]+) +(.*)', line):
             yield int(found[1]), (who, found[2])
 
 
+def menders_in_rules():
+    """Rule 12.3 has its own words for what is wrong."""
+    part = (ROOT / 'docs' / 'RULES.md').read_text(encoding='utf-8').split('- **12.3**')[1].split('- **12.4**')[0]
+    for number, who in re.findall(r'^\| ([0-9]+) \| .* \| (.*) \| .* \|$', part, re.MULTILINE):
+        yield int(number), who
+
+
 def check_words(table):
-    if f'june.case{BAD_SAID}' not in (ROOT / 'README.md').read_text():
+    if f'june.case{BAD_SAID}' not in (ROOT / 'README.md').read_text(encoding='utf-8'):
         sys.exit("desk: README.md's example isn't what the command says")
-    for place, said in (('README.md', said_in_readme()), ('embed/kuyeshan.h', said_in_header())):
-        said = list(said)
-        for found, expected in zip(said, table.items()):
+    menders = [(number, who) for number, (who, _) in table.items()]
+    for place, said, wanted in (('README.md', said_in_readme(), table.items()),
+                                ('embed/kuyeshan.h', said_in_header(), table.items()),
+                                ('docs/RULES.md', menders_in_rules(), menders)):
+        for found, expected in zip_longest(said, wanted):
             if found != expected:
                 sys.exit(f'desk: {place} says {found}, and {TABLE.name} {expected}')
-        if len(said) != len(table):
-            sys.exit(f'desk: {place} has the words of {len(said)} refusals, and {TABLE.name} of {len(table)}')
 
 
 def check():
@@ -641,6 +670,7 @@ def check():
         copy = Copy(folder)
         check_rebuilt(copy)
         check_edit_meanwhile(copy)
+        check_while_built(copy)
         check_at_once(copy)
         check_not_built(copy)
         check_bare_path(copy)
