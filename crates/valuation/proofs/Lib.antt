@@ -1,11 +1,4 @@
--- Laws that no function owns; Statements is what a reader looks for.
+-- Laws that no function owns.
 pub mod TotalLaws
 pub mod PrintedLaws
 pub mod AnswerLaws
-pub mod SupplementalLaws
-pub mod FileLines
-pub mod LineEnds
-pub mod LoneMember
-pub mod ReadBack
-pub mod AmountSizes
-pub mod Statements

@@ -8,27 +8,21 @@ use native.Mathlib.Nat.{eq-or-lt-of-le}
 use native.Mathlib.Omega.{arith}
 use native.Mathlib.Numerals.{add-one}
 use borrow.Author.Tests.{lt-ltb, le-ltb}
-use lib.ListN.{length, getD, set}
+use lib.ListN.{length, set}
 use lib.Seq.{sets}
 use lib.IntN.{ℤ, pos, negsuc, _-ℤ_}
 use Rattle.rounding.specs.Nearest.{nearest}
 use Rattle.rounding.specs.Signed.{integer, signed}
 use Rattle.rounding.proofs.NearestLaws.{nearest-shrinks}
-use Rattle.fractions.specs.Ratio.{Ratio, whole}
-use Rattle.fractions.proofs.RatioLaws.{whole-⊕, whole-proper}
-use Rattle.fractions.proofs.ApartLaws.{apart-⊕}
 use Rattle.annuity.specs.Factors.{S, C}
-use Rattle.annuity.specs.Accuracy.{Within}
 use Rattle.annuity.proofs.Sizes.{C-least}
 use Rattle.plan.specs.declared.Plan.{Plan}
 use Rattle.plan.specs.declared.Member.{Member}
 use Rattle.costs.specs.declared.Figures.{Figures}
 use Rattle.costs.specs.Valuation.{figures}
-use Rattle.costs.proofs.Quotients.{close-refl}
-use Rattle.casefile.specs.Case.{nobody}
 use Rattle.casefile.specs.Stored.{memberAt}
 use Rattle.printing.proofs.SetsLaws.{before-text, in-text}
-use Rattle.valuation.specs.Totals.{total, total*}
+use Rattle.valuation.specs.Totals.{total}
 use Rattle.valuation.specs.Worked.{storedFigures, words, membersIn, Worked}
 
 -- ---- the array of figures
@@ -83,15 +77,6 @@ module _ (p : Plan) (rows : List (List ℕ)) (figure : Figures → ℕ) where
   unfolding membersIn
   total-next members j so-far is = rw (so-far, is, add-one j)
       (sym (rw (total-one (memberAt members j)) at (total-both (membersIn members j) (memberAt members j ∷ []))))
-
--- the limits of the members add up
-pub sums-close : (p : Plan) (rows : List (List ℕ)) (figure : Figures → ℕ) (limit exact : Member → Ratio) (l : List Member) → ((j : ℕ) → j < length l → Within (limit (getD l j nobody)) (figure (figures p rows (getD l j nobody))) (exact (getD l j nobody))) → Within (total* limit l) (total p rows figure l) (total* exact l)
-unfolding total total*
-sums-close p rows figure limit exact [] near = close-refl (whole-proper 0) (whole-proper 0)
-sums-close p rows figure limit exact (m ∷ l) near =
-    rw whole-⊕ at
-    (apart-⊕ (whole (figure (figures p rows m))) (exact m) (whole (total p rows figure l)) (total* exact l) (near 0 (omega arith))
-    (sums-close p rows figure limit exact l (λ j h. near (suc j) (omega arith))))
 
 -- ---- the unfunded and its payment
 pub overfunded : (l a : ℕ) → l < a → record { negative = true; size = a - l } ≡ signed (pos l -ℤ pos a)

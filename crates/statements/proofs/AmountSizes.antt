@@ -23,8 +23,8 @@ use Rattle.costs.specs.Valuation.{figures}
 use Rattle.costs.proofs.FigureSizes.{Small, figures-small}
 use Rattle.casefile.specs.Case.{nobody, idBefore}
 use Rattle.casefile.proofs.Accepted.{accepted-case}
 use Rattle.valuation.specs.Totals.{total, unfunded, supplemental}
-use Rattle.valuation.specs.Statements.{Printed-Amounts-Fit}
+use Rattle.statements.specs.Statements.{Printed-Amounts-Fit}
 
 -- ---- ids
 middle : (t u w : Bool) → unless ((t && u) && w) 21 ≡ 0 → u ≡ true

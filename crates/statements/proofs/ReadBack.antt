@@ -13,7 +13,7 @@ use Rattle.casefile.specs.declared.numbers.Number.the-variants.{Value}
 use Rattle.casefile.specs.Numbers.{isDigit, digits as allDigits, number, wholeForm, digitsOf, wholeOf, amountOf}
 use Rattle.printing.specs.Amounts.{digits, whole, amount}
 use Rattle.printing.proofs.AmountLaws.{width-one, width-more}
-use Rattle.valuation.specs.Statements.{Wholes-Read-Back, Amounts-Read-Back}
+use Rattle.statements.specs.Statements.{Wholes-Read-Back, Amounts-Read-Back}
 
 -- ---- one digit more at the end
 digit-more : (s : List ℕ) (b : ℕ) → allDigits s ≡ true → 48 ≤ b → b ≤ 57 → allDigits (s ++ (b ∷ [])) ≡ true

@@ -16,15 +16,16 @@ use Rattle.casefile.specs.Outcome.{Outcome, values, refusal, andThen}
 use Rattle.casefile.specs.Case.{Case, nobody, acceptingOf, idBefore}
 use Rattle.casefile.proofs.OutcomeLaws.{no-values, values-one}
 use Rattle.casefile.proofs.Accepted.{accepted-case}
 use Rattle.valuation.specs.Totals.{total, unfunded, supplemental}
 use Rattle.valuation.specs.Lines.{memberLine, planLines, printed}
 use Rattle.valuation.specs.Answers.{fitting, valuedOf}
-use Rattle.valuation.specs.Statements.{lineOf, Every-Member, Members-Are-Lines, Plan-Lines, Independence, Totals-Are-Sums, Totals-Accuracy, supplemental*, Supplemental-Accuracy}
-use Rattle.valuation.proofs.LineEnds.{member-is-line, member-text, members-done}
-use Rattle.valuation.proofs.FileLines.{past-both, Agree, plan-same, file-lined, member-same}
-use Rattle.valuation.proofs.LoneMember.{accepted-alone}
-use Rattle.valuation.proofs.TotalLaws.{total-one, total-both, sums-close}
-use Rattle.valuation.proofs.SupplementalLaws.{payment-close}
+use Rattle.statements.specs.Statements.{lineOf, Every-Member, Members-Are-Lines, Plan-Lines, Independence, Totals-Are-Sums, Totals-Accuracy, supplemental*, Supplemental-Accuracy}
+use Rattle.statements.proofs.LineEnds.{member-is-line, member-text, members-done}
+use Rattle.statements.proofs.FileLines.{past-both, Agree, plan-same, file-lined, member-same}
+use Rattle.statements.proofs.LoneMember.{accepted-alone}
+use Rattle.valuation.proofs.TotalLaws.{total-one, total-both}
+use Rattle.statements.proofs.TotalSums.{sums-close}
+use Rattle.statements.proofs.SupplementalLaws.{payment-close}
 
 -- ---- the lines of a file
 -- the line after n others

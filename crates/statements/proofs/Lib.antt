@@ -1,0 +1,9 @@
+-- Laws that no function owns; Statements is what a reader looks for.
+pub mod SupplementalLaws
+pub mod TotalSums
+pub mod FileLines
+pub mod LineEnds
+pub mod LoneMember
+pub mod ReadBack
+pub mod AmountSizes
+pub mod Statements
