@@ -2,8 +2,8 @@
 //! over the bytes: form.rs for reading, reader.rs for accepting. bench/casefile builds and runs it. The sides take
 //! turns, and the best round of each counts. Exits 1 where an answer differs, of these files or of many damaged ones.
 //!
-//! The same on both sides: the grammar, the rules in their order, the answer, and in accepting B(k) for each age of
-//! each member. What differs:
+//! The same on both sides: the grammar, the rules in their order, the answer, and in accepting B(r) of each member. What
+//! differs:
 //! - Reading in Rattle stores the rows and the members, in arrays that it clears first and throws away; form.rs keeps
 //!   none. Accepting keeps both on either side: Rattle in such arrays, copied out once all is accepted, so that a
 //!   refusal leaves the caller's as they were; reader.rs in an array and a Vec that grows, handed back as they are.

@@ -71,21 +71,31 @@ pub fn place(k: u64) -> usize {
     k as usize - FIRST
 }
 
+/// B(r) alone.
+fn retirement_benefit(plan: &Plan, rows: &Rows, m: &Member) -> u64 {
+    benefit(plan, rows, m, plan.retire, |from| weights(rows, from, plan.retire))
+}
+
+/// The weights of the ages from a to b - 1, summed.
+pub fn weights(rows: &Rows, a: u64, b: u64) -> u64 {
+    rows[place(a)..place(b)].iter().map(|row| row[3] as u64).sum()
+}
+
 /// B(k) for each age from entry to retirement.
 pub fn accrued_benefits(plan: &Plan, rows: &Rows, m: &Member) -> [u64; AGES] {
     let sums = summed_weights(rows);
-    let now = rows[place(m.age)][3] as u64;
     let mut benefits = [0; AGES];
     for k in m.entry + 1..=plan.retire {
-        benefits[place(k)] = benefit(plan, &sums, m, now, k);
+        benefits[place(k)] = benefit(plan, rows, m, k, |from| sums[place(k)] - sums[place(from)]);
     }
     benefits
 }
 
-/// One word holds these products: the largest is 500 * 60 * 100,000,000 * 1,000,000.
-fn benefit(plan: &Plan, sums: &[u64; AGES], m: &Member, now: u64, k: u64) -> u64 {
+/// B(k), from the summed weights of the ages from one on up to k. One word holds these products: the largest is
+/// 500 * 60 * 100,000,000 * 1,000,000.
+fn benefit(plan: &Plan, rows: &Rows, m: &Member, k: u64, weights: impl Fn(u64) -> u64) -> u64 {
     let years = k - m.entry;
-    let weights = |from: u64| sums[place(k)] - sums[place(from)];
+    let now = rows[place(m.age)][3] as u64;
     match plan.formula {
         Formula::Flat => plan.unit * years,
         Formula::Career => nearest(plan.unit * m.salary * weights(m.entry), 10_000 * now),
@@ -158,11 +168,7 @@ fn member_rule(plan: &Plan, rows: &Rows, before: u64, m: &Member) -> u64 {
     if m.salary > MOST_SALARY {
         return 24;
     }
-    let benefits = accrued_benefits(plan, rows, m);
-    if benefits[place(plan.retire)] > MOST_BENEFIT {
-        return 25;
-    }
-    unless(benefits[place(m.entry)..=place(plan.retire)].is_sorted(), 26)
+    unless(retirement_benefit(plan, rows, m) <= MOST_BENEFIT, 25)
 }
 
 // ---- the lines

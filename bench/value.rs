@@ -1,17 +1,17 @@
 //! What the valuation of a case file costs in Rattle, beside a Rust program in u128 that works the same factors: each
-//! member's own A and G and then T or Z, year step by year step, and B(k) for each age, twice, once to accept it and once
-//! to value it; with reading, accepting and printing. bench/run builds and runs it. The sides take turns, and the best
-//! round of each counts; Python's oracle is run once, as a process, for scale. Exits 1 where the answers or a byte of the
-//! buffers differ, of these files, of drawn plans or of damaged files.
+//! member's own A and G and then T or Z, year step by year step, B(r) to accept it and B(k) for each age to value it;
+//! with reading, accepting and printing. bench/run builds and runs it. The sides take turns, and the best round of each
+//! counts; Python's oracle is run once, as a process, for scale. Exits 1 where the answers or a byte of the buffers
+//! differ, of these files, of drawn plans or of damaged files.
 //!
 //! The same on both sides: the answers and every byte of the buffer; A, G and B(k) of each member, and nothing shared
 //! from one member to the next. What differs:
 //! - per file, reading and accepting, as casefile.rs says. Rattle keeps the figures in an array of 32,000 bytes that it
 //!   clears, adds up the lengths of all lines and then writes them where they belong; Rust writes each line at once to
 //!   a Vec that grows, and copies that out where it fits;
-//! - per member, Rattle works T(y,r) or Z(y,r) twice by CD and CP, once for N and once for L, sums the weights of all
-//!   ages three times by BP, and works V(x) anew for each N and L that rests on it; Rust works each once, and sums the
-//!   weights of the member's ages alone. At x = r Rattle leaves N out, which Rust works and drops;
+//! - per member, Rattle works T(y,r) or Z(y,r) twice by CD and CP, and M by BP, once for N and once for L, and works
+//!   V(x) anew for each N and L that rests on it; Rust works each once. At x = r Rattle leaves N out, which Rust works
+//!   and drops;
 //! - in Rattle the rows go by value, 1,696 bytes, to the functions that document 01 wants so; and each side rounds as in
 //!   bench/rounding.
 mod factors;
@@ -73,7 +73,7 @@ mod rattle {
 mod rust {
     use super::Answer;
     use super::factors::{Factors, LAST, Row, Rows, S, fill, nearest};
-    use super::reader::{Case, Member, Method, Plan, accrued_benefits, place, walk};
+    use super::reader::{Case, Member, Method, Plan, accrued_benefits, place, walk, weights};
 
     #[derive(Clone, Copy)]
     struct Figures {
@@ -154,11 +154,6 @@ mod rust {
 
     fn weight(rows: &Rows, k: u64) -> u64 {
         rows[place(k)][3] as u64
-    }
-
-    /// The weights of the ages from a to b - 1, summed.
-    fn weights(rows: &Rows, a: u64, b: u64) -> u64 {
-        rows[place(a)..place(b)].iter().map(|row| row[3] as u64).sum()
     }
 
     /// G(k) for each age up to r.
@@ -402,7 +397,7 @@ fn main() {
     accepting.iter().for_each(|case| case.print(&accepting[0]));
     println!("Python's oracle  members        µs   times Rattle's");
     valuing[1..5].iter().for_each(scale);
-    println!("what differs: Rattle works T(y,r) or Z(y,r) twice a member by CD or CP, sums BP's weights three times, works V");
+    println!("what differs: Rattle works T(y,r) or Z(y,r) twice a member by CD or CP, and M by BP, works V");
     println!("anew for N and L, passes rows by value, passes over the first 114 lines again, and clears and copies arrays");
     check(&valuing);
 }

@@ -26,10 +26,10 @@
  *     23  the age is below the entry age, or above the retirement age
  *     24  the salary is over 1000000.00 a year
  *     25  the benefit is over 1000000.00 a year
- *     26  the accrued benefit falls from one age to the next
  *     27  a member line after 1,000 members
  *   the calling program mends:
  *     30  what is to be printed is longer than the buffer
+ * 26 is retired, and never given again.
  *
  * Memory: all of it is the caller's. No pointer is null, not even with a length of 0, and what one of them points to
  * overlaps nothing that another one points to. The library keeps no pointer, allocates nothing and has no state, so

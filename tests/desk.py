@@ -27,8 +27,10 @@ ROOT = Path(__file__).resolve().parent.parent
 COMMAND = ROOT / 'bin' / 'value'
 EXAMPLES = ROOT / 'examples'
 TABLE = ROOT / 'bin' / 'refusals.tsv'
-# What the rules list. No file gives 26, since weights never fall, nor 30, since the program's buffer holds all outputs.
-RULES = ACCEPTING | {26, 30}
+# What the rules list. No file gives 30, since the program's buffer holds all outputs.
+RULES = ACCEPTING | {30}
+# What they listed once. It stands in no list again, and the command doesn't take it for an answer.
+RETIRED = {26}
 SENDER, ACTUARY, PAYROLL = 'the sender of the file', 'the plan actuary', 'the payroll office'
 CR = 'the line ends in CR, byte 13; save the file with line ends LF'
 MARK = 'the file begins with a byte-order mark; save it as plain text without one'
@@ -553,11 +555,12 @@ def check_broken_program(copy, table):
     broken = "standard input: the program failed: what it wrote isn't whole, and is left out\n"
     for answer in (b'', b'\n', GOOD_LINES[:-1], GOOD_LINES[:-7], GOOD_LINES[:GOOD_LINES.index(b'supplemental')],
                    b'member=7,200.00', b'refused=20,115', b'refused=20\n', b'refused=99,1\n',
+                   *(f'refused={number},115\n'.encode() for number in RETIRED),
                    b'refused=20,115\nmore\n', GOOD_LINES + b'more'):
         hold_answer(f'the answer {answer}', answer, 2, b'', broken)
     hold_answer('a program that fails', GOOD_LINES, 2, b'', broken, 'exit 1')
     hold_answer('a program that is killed', GOOD_LINES, 2, b'', broken, f'kill -{int(signal.SIGKILL)} $$')
-    for number, line in ((26, 115), (30, 0)):
+    for number, line in ((25, 115), (30, 0)):
         who, what = table[number]
         where = f':{line}' if line else ''
         quote = ': "member=7,63,64,0.00"' if line else ''
@@ -600,7 +603,7 @@ def words():
     if first != ['number', 'who mends it', 'what is wrong'] or sorted(rest, key=lambda line: int(line[0])) != rest:
         sys.exit(f'desk: {TABLE.name} is out of order')
     table = {int(number): (who, what) for number, who, what in rest}
-    if len(table) != len(rest) or set(table) != RULES:
+    if len(table) != len(rest) or set(table) != RULES or RETIRED & set(table):
         sys.exit(f'desk: {TABLE.name} has the refusals {[line[0] for line in rest]}')
     return table
 

@@ -28,8 +28,6 @@ from oracle import (AB, AGES, CAREER, CD, CP, FIGURES, FINAL, FIRST, FLAT, FORMU
 ROOT = Path(__file__).parent.parent
 CRATE = ROOT / 'crates' / 'member_figures'
 PROGRAM = ROOT / 'target' / 'bin' / 'member_figures'
-# Refusal 26, a benefit that falls, can't occur: weights never fall, so neither the pay of the years nor a mean of the
-# last ones does.
 OF_PLAN = {10, 11, 12, 13, 14, 15}
 REFUSALS = OF_PLAN | {21, 22, 23, 24, 25}
 
@@ -408,6 +406,28 @@ def check_exact(case, farthest, everywhere):
             differ(case, f'{METHOD_NAMES[method]} at {k}', 'the exact L is not the exact V less the future normal costs')
 
 
+def falls(case):
+    """Whether the benefit is below that of the age before, at an age from entry to retirement."""
+    B = [benefit(*case, k) for k in range(case.member.entry, case.plan.retire + 1)]
+    return any(after < before for before, after in zip(B, B[1:]))
+
+
+def check_rising(cases):
+    """Rule 7.9 by the oracle: no benefit falls of a member that is accepted, or refused with 25. With the weights the other
+    way round some do, so that this check can fail. How many it looked at."""
+    kept = [case for case in cases if refusal(*case) in (0, 25)]
+    for case in filter(falls, kept):
+        differ(case, 'the benefit falls', 'by rule 7.9 none does')
+    if not any(falls(case._replace(rows=turned(case.rows))) for case in kept):
+        sys.exit('member_figures: no benefit falls with weights that do')
+    return len(kept)
+
+
+def turned(rows):
+    """The rows with the weights of the ages in reverse."""
+    return {k: (*rows[k][:3], rows[FIRST + LAST - k][3]) for k in AGES}
+
+
 def check():
     check_worked()
     cases = [case for case, _ in worked()] + generated(random.Random(3))
@@ -422,14 +442,14 @@ def check():
     refused = commands.numbers_of(line for _, line, _ in said)
     if set(of_plan) != OF_PLAN or set(refused) != REFUSALS:
         sys.exit(f'member_figures: the plans give the refusals {sorted(of_plan)}, the members {sorted(refused)}')
-    report(len(cases), of_plan, refused, farthest)
+    report(len(cases), of_plan, refused, check_rising(cases), farthest)
 
 
-def report(count, of_plan, refused, farthest):
+def report(count, of_plan, refused, rising, farthest):
     cents = ', '.join(f'{name} {float(far):.2f}' for name, far in farthest.items())
     print(f'member_figures: {count - of_plan.total()} plans accepted; {count - refused.total()} members accepted and '
-          f'valued; {refused.total()} refused ({commands.counted(refused)}); at most so many cents from exact, and none beyond '
-          f'the limit for its benefit: {cents}')
+          f'valued; {refused.total()} refused ({commands.counted(refused)}); of {rising} members no benefit falls; at most so '
+          f'many cents from exact, and none beyond the limit for its benefit: {cents}')
 
 
 if __name__ == '__main__':

@@ -107,14 +107,12 @@ def refusal_of_plan(plan, rows):
 
 
 def refusals_of_member(plan, rows, member, id_before):
-    """Rules 4.2 to 4.5, 7.8 and 7.9, under an accepted plan. The benefit is worked only where the others are 0."""
+    """Rules 4.2 to 4.5 and 7.8, under an accepted plan. The benefit is worked only where the others are 0."""
     yield outside(member.id, id_before + 1, 999999999, 21)
     yield outside(member.entry, FIRST, plan.retire - 1, 22)
     yield outside(member.age, member.entry, plan.retire, 23)
     yield outside(member.salary, 0, MOST_SALARY, 24)
-    B = [benefit(plan, rows, member, k) for k in range(member.entry, plan.retire + 1)]
-    yield outside(B[-1], 0, MOST_BENEFIT, 25)
-    yield 26 if any(after < before for before, after in zip(B, B[1:])) else 0
+    yield outside(benefit(plan, rows, member, plan.retire), 0, MOST_BENEFIT, 25)
 
 
 def refusal_of_member(plan, rows, member, id_before=0):

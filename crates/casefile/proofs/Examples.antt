@@ -8,7 +8,7 @@ use Rattle.rounding.specs.Nearest.{nearest}
 use Rattle.fractions.specs.Ratio.{_over_, whole}
 use Rattle.plan.specs.declared.Plan.{Plan}
 use Rattle.plan.specs.Benefit.{formulaOf as formulaCode, exactBenefit, B}
-use Rattle.plan.specs.Acceptance.{rowRules, rises, fieldRules, benefitRules, memberRefusal}
+use Rattle.plan.specs.Acceptance.{rowRules, fieldRules, benefitRules, memberRefusal}
 use Rattle.casefile.specs.declared.numbers.Number.the-variants.{Value, Malformed}
 use Rattle.casefile.specs.declared.members.Tail.the-variants.{OfMember, Surplus, Neither}
 use Rattle.casefile.specs.declared.Reading.the-variants.{Read, Refused}
@@ -101,7 +101,7 @@ unfolding wholeOf digitsOf amountOf hasOf uptoOf pastOf linesPast sameOf keyedOf
 accepted-alone = refl
 
 accepted-file : accepting (acceptingOf (shortFile "member=7,63,64,0.00\nend=1\n")) ≡ Accepted shortPlan 1
-unfolding wholeOf digitsOf amountOf hasOf uptoOf pastOf linesPast sameOf keyedOf formulaOf methodOf keyedAmountOf termOf termRule headOf threeOf fourthOf ratesOf rowOf rowRules rowsOf memberOf tailOf membersOf walkOf acceptingOf memberRefusal fieldRules benefitRules rises nearest _over_ whole exactBenefit B formulaCode
+unfolding wholeOf digitsOf amountOf hasOf uptoOf pastOf linesPast sameOf keyedOf formulaOf methodOf keyedAmountOf termOf termRule headOf threeOf fourthOf ratesOf rowOf rowRules rowsOf memberOf tailOf membersOf walkOf acceptingOf memberRefusal fieldRules benefitRules nearest _over_ whole exactBenefit B formulaCode
 accepted-file = refl
 
 -- rule 12.4: an age past retirement comes before a cut in the line after it

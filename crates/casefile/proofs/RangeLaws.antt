@@ -10,14 +10,14 @@ use Rattle.plan.specs.declared.Plan.{Plan}
 use Rattle.plan.specs.declared.Member.{Member}
 use Rattle.plan.specs.Rules.{unless, firstOf, between}
 use Rattle.plan.specs.Benefit.{B}
-use Rattle.plan.specs.Acceptance.{rowRules, rises, fieldRules, benefitRules, memberRefusal, formulaRule, methodRule}
+use Rattle.plan.specs.Acceptance.{rowRules, fieldRules, benefitRules, memberRefusal, formulaRule, methodRule}
 use Rattle.casefile.specs.declared.numbers.Number.{Number}
 use Rattle.casefile.specs.declared.numbers.Number.the-variants.{Value, Malformed}
 use Rattle.casefile.specs.Text.{bytes}
 use Rattle.casefile.specs.Split.{sameOf}
 use Rattle.casefile.specs.Heading.{formulaOf, methodOf, termOf, termRule}
 use Rattle.casefile.specs.Rows.{rowRule}
-use Rattle.casefile.specs.Answers.{RangeNumber, of-a-number, of-average, of-rates, of-death, of-weight, of-id, of-entry, of-age, of-salary, of-benefit, of-rise}
+use Rattle.casefile.specs.Answers.{RangeNumber, of-a-number, of-average, of-rates, of-death, of-weight, of-id, of-entry, of-age, of-salary, of-benefit}
 
 -- no refusal, or a range's
 abbrev pub Ranged : ℕ → Type 0
@@ -62,10 +62,7 @@ member-ranged p rows before m =
           rule-ranged (between (m .entry) (p .retire) (m .age)) of-age,
           (
             rule-ranged (leb (m .salary) 100000000) of-salary,
-            (
-              rule-ranged (leb (B p rows m (p .retire)) 100000000) of-benefit,
-              (rule-ranged (rises (B p rows m) (m .entry) (p .retire - m .entry)) of-rise, tt),
-            ),
+            (rule-ranged (leb (B p rows m (p .retire)) 100000000) of-benefit, tt),
           ),
         ),
       ),

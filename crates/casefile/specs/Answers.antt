@@ -21,7 +21,8 @@ pub data FormNumber : ℕ → Type 0 where
   member-form : FormNumber 20
   surplus : FormNumber 27
 
--- rule 12.3, the eleven numbers of ranges: 11 to 15 in lines 1 to 114, 21 to 26 in a member's line
+-- rule 12.3, the ten numbers of ranges: 11 to 15 in lines 1 to 114, 21 to 25 in a member's line. 26 is retired, and no rule uses
+-- it again
 pub data RangeNumber : ℕ → Type 0 where
   of-a-number : RangeNumber 11
   of-average : RangeNumber 12
@@ -33,7 +34,6 @@ pub data RangeNumber : ℕ → Type 0 where
   of-age : RangeNumber 23
   of-salary : RangeNumber 24
   of-benefit : RangeNumber 25
-  of-rise : RangeNumber 26
 
 -- ---- reading
 -- rule 5.1: a refusal of reading has one of those seven numbers

@@ -13,7 +13,6 @@ use crate::text::seek;
 use crate::text::starts;
 use plan::Member;
 use plan::Plan;
-use plan::acceptance::judge_member;
 ghost use mathlib.Core.Path.{_≡_};
 ghost use mathlib.Core.Bool.{true};
 ghost use mathlib.Core.List.{List};
@@ -106,8 +105,7 @@ fn member_refusal(ranges: bool, p: Plan, rows: [[u32; 4]; 106], before: u64, m: 
     ensures { λ r. ⌜ r ≡ settled ranges (memberRefusal p rows before m) ⌝ }
 {
     if ranges {
-        let judged = judge_member(p, rows, before, m);
-        judged.refusal
+        plan::acceptance::member_refusal(p, &rows, before, m)
     } else {
         0
     }

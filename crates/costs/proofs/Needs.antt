@@ -17,6 +17,7 @@ use Rattle.plan.specs.Weights.{summed}
 use Rattle.plan.specs.Benefit.{B}
 use Rattle.plan.specs.Acceptance.{AcceptedMember}
 use Rattle.plan.proofs.Facts.{PlanFacts, plan-facts}
+use Rattle.plan.proofs.RiseLaws.{accepted-never-falls}
 use Rattle.plan.proofs.WeightLaws.{summed-split, summed-more}
 use Rattle.costs.specs.Case.{Sound}
 use Rattle.costs.specs.Costs.{PV}
@@ -53,7 +54,7 @@ module _ (p : Plan) (rows : List (List ℕ)) (m : Member) (accepted : AcceptedMe
         weighty = λ k from to. facts .least k (omega (arith, accepted .placed .grown)) (omega (arith, facts .head .retire .1));
         climbs = λ k from to. facts .climbs k (omega (arith, accepted .placed .grown)) (omega (arith, facts .head .retire .1));
         capped = accepted .capped;
-        rises = accepted .rising;
+        rises = accepted-never-falls p rows m (accepted .plan) (accepted .placed);
       }
 
   -- the weights of the past are among all of them

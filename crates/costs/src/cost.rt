@@ -85,7 +85,7 @@ fn benefit_by_pay(
     ensures { λ r. ⌜ r ≡ Costs·cost (caseOf p (now (rows .entry)) m) BP k ⌝ }
 {
     let value = present_value(p, rows, m, benefits, deferred, k);
-    let all = plan::benefit::weights_between(*rows, m.entry, p.retire);
+    let all = plan::benefit::weights_between(rows, m.entry, p.retire);
     share(value, annuity::weight(*rows, k), all)
 }
 

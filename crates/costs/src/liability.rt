@@ -81,8 +81,8 @@ fn benefit_by_pay(
     ensures { λ r. ⌜ r ≡ L (caseOf p (now (rows .entry)) m) BP k ⌝ }
 {
     let value = present_value(p, rows, m, benefits, deferred, k);
-    let past = plan::benefit::weights_between(*rows, m.entry, k as u64);
-    let all = plan::benefit::weights_between(*rows, m.entry, p.retire);
+    let past = plan::benefit::weights_between(rows, m.entry, k as u64);
+    let all = plan::benefit::weights_between(rows, m.entry, p.retire);
     share(value, past, all)
 }
 

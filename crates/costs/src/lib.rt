@@ -10,7 +10,8 @@ mod parts;
 use plan::Member;
 use plan::Method;
 use plan::Plan;
-use plan::acceptance::judge_lone_member;
+use plan::acceptance::lone_refusal;
+use plan::benefit::accrued_benefits;
 ghost use mathlib.Core.Path.{_≡_};
 ghost use Prim.Native.Nat.{_≤_};
 ghost use Rattle.plan.specs.Acceptance.{AcceptedMember, Accrued};
@@ -35,21 +36,19 @@ pub fn value_member(p: Plan, rows: [[u32; 4]; 106], m: Member) -> Valuation
     ensures figures { λ r. ⌜ r ≡ valuation p rows m ⌝ }
     ensures limits { λ r. ⌜ Limited p rows m r ⌝ }
 {
-    let judged = judge_lone_member(p, rows, m);
-    let refusal = judged.refusal;
+    let refusal = lone_refusal(p, rows, m);
     if refusal != 0 {
         return Valuation::Refused(refusal, 0);
     }
-    let benefits = judged.benefits;
-    let f = figures_of(p, rows, m, benefits);
-    Valuation::Valued(f)
+    Valuation::Valued(figures_of(p, rows, m))
 }
 
-// The figures of an accepted member at its own age, by the plan's method.
-pub fn figures_of(p: Plan, rows: [[u32; 4]; 106], m: Member, benefits: [u64; 106]) -> Figures
-    requires { ⌜ AcceptedMember p rows m × Accrued p rows m benefits ⌝ }
+// The figures of an accepted member at its own age, by the plan's method and by factors of its own.
+pub fn figures_of(p: Plan, rows: [[u32; 4]; 106], m: Member) -> Figures
+    requires { ⌜ AcceptedMember p rows m ⌝ }
     ensures { λ f. ⌜ f ≡ figures p rows m ⌝ }
 {
+    let benefits = accrued_benefits(p, rows, m);
     figures_at(p, rows, m, benefits, method_of(p.method), m.age as usize)
 }
 

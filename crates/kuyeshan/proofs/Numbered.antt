@@ -10,7 +10,7 @@ use lib.ListN.{length}
 use Rattle.plan.specs.Acceptance.{loneRefusal}
 use Rattle.casefile.specs.Outcome.{Outcome, values, refusal, andThen}
 use Rattle.casefile.specs.Case.{reading, readingOf, acceptingOf}
-use Rattle.casefile.specs.Answers.{FormNumber, RangeNumber, too-long, cut, tail, count, plan-form, member-form, surplus, of-a-number, of-average, of-rates, of-death, of-weight, of-id, of-entry, of-age, of-salary, of-benefit, of-rise}
+use Rattle.casefile.specs.Answers.{FormNumber, RangeNumber, too-long, cut, tail, count, plan-form, member-form, surplus, of-a-number, of-average, of-rates, of-death, of-weight, of-id, of-entry, of-age, of-salary, of-benefit}
 use Rattle.casefile.proofs.Theorems.{reading-gives, accepting-refuses}
 use Rattle.costs.specs.declared.Figures.{Figures}
 use Rattle.costs.specs.declared.Valuation.the-variants.{Valued, Refused}
@@ -39,7 +39,6 @@ range-above of-entry = omega arith
 range-above of-age = omega arith
 range-above of-salary = omega arith
 range-above of-benefit = omega arith
-range-above of-rise = omega arith
 
 -- ---- the case file
 pub reading-numbered : ReadingNumbered

@@ -5,13 +5,16 @@ use mathlib.Core.Bool.{Bool, true, false}
 use borrow.Author.Tests.{leb-true, leb-false}
 use lib.Dec.{leb}
 use Prim.Native.Nat.{ℕ, _+_, _-_, _*_, _≤_, _<_, min}
-use native.Mathlib.Nat.{mul-le-mul, min-le-left, min-le-right, min-eq-left, min-eq-right, le-of-lt}
+use native.Mathlib.Nat.{le-refl, mul-le-mul, min-le-left, min-le-right, min-eq-left, min-eq-right, le-of-lt}
 use native.Mathlib.Omega.{arith}
 use lib.ListN.{getD}
 use Rattle.annuity.specs.Basis.{weight, Table}
 use Rattle.plan.specs.declared.Plan.{Plan}
 use Rattle.plan.specs.declared.Member.{Member}
-use Rattle.plan.specs.Weights.{summed}
+use Rattle.plan.specs.declared.Formula.{Formula}
+use Rattle.plan.specs.declared.Formula.the-variants.{Flat, Career, Final}
+use Rattle.plan.specs.Weights.{summed, firstPaid, paidWeights}
+use Rattle.plan.specs.Benefit.{formulaOf}
 use Rattle.plan.specs.Acceptance.{planRefusal, Placed, Sums}
 use Rattle.plan.proofs.WeightLaws.{summed-from, summed-most}
 use Rattle.plan.proofs.Facts.{PlanFacts, plan-facts}
@@ -42,21 +45,48 @@ last-ages average years low high some =
     }
 
 -- ---- sums of a table's weights
-module _ (rows : List (List ℕ)) (table : Table rows) (sums : List ℕ) (held : Sums rows sums) (a b : ℕ) (low : 15 ≤ a) (le : a ≤ b) (high : b ≤ 120) where
-  sum-is : getD sums (b - 15) 0 ≡ getD sums (a - 15) 0 + summed (weight rows) a (b - a)
-  sum-is =
-      held .each b (omega arith) high
-      ∙ summed-from (weight rows) a b low le
-      ∙ ap (λ (x : ℕ). x + summed (weight rows) a (b - a)) (sym (held .each a low (omega arith)))
+module _ (rows : List (List ℕ)) (a b : ℕ) (low : 15 ≤ a) (le : a ≤ b) (high : b ≤ 120) where
+  pub weights-most : Table rows → summed (weight rows) a (b - a) ≤ (b - a) * 100000
+  weights-most table = summed-most (weight rows) 100000 a (b - a) (λ j from to. table .weights j (omega arith) (omega arith))
 
-  pub sums-rise : getD sums (a - 15) 0 ≤ getD sums (b - 15) 0
-  sums-rise = omega (arith, sum-is)
+  -- as differences of two sums from 15 on
+  module _ (sums : List ℕ) (held : Sums rows sums) where
+    sum-is : getD sums (b - 15) 0 ≡ getD sums (a - 15) 0 + summed (weight rows) a (b - a)
+    sum-is =
+        held .each b (omega arith) high
+        ∙ summed-from (weight rows) a b low le
+        ∙ ap (λ (x : ℕ). x + summed (weight rows) a (b - a)) (sym (held .each a low (omega arith)))
 
-  pub sums-differ : getD sums (b - 15) 0 - getD sums (a - 15) 0 ≡ summed (weight rows) a (b - a)
-  sums-differ = omega (arith, sum-is)
+    pub sums-rise : getD sums (a - 15) 0 ≤ getD sums (b - 15) 0
+    sums-rise = omega (arith, sum-is)
 
-  pub sums-most : summed (weight rows) a (b - a) ≤ (b - a) * 100000
-  sums-most = summed-most (weight rows) 100000 a (b - a) (λ j from to. table .weights j (omega arith) (omega arith))
+    pub sums-differ : getD sums (b - 15) 0 - getD sums (a - 15) 0 ≡ summed (weight rows) a (b - a)
+    sums-differ = omega (arith, sum-is)
+
+-- ---- the ages whose pay a benefit rests on
+first-paid-among : (f : Formula) (average entry k : ℕ) → entry ≤ k → (entry ≤ firstPaid f average entry k) × (firstPaid f average entry k ≤ k)
+unfolding firstPaid
+first-paid-among Flat average entry k le = (le, le-refl k)
+first-paid-among Career average entry k le = (le-refl entry, le)
+first-paid-among Final average entry k le = (omega (arith, min-le-right average (k - entry)), omega arith)
+
+-- they lie in the table
+pub record PaidAges (first k : ℕ) : Type 0 where
+  pub low : 15 ≤ first
+  pub le : first ≤ k
+  pub high : k ≤ 120
+
+module _ (p : Plan) (rows : List (List ℕ)) (m : Member) (k : ℕ) where
+  pub paid-career : formulaOf (p .formula) ≡ Career → paidWeights p rows m k ≡ summed (weight rows) (m .entry) (k - m .entry)
+  unfolding paidWeights firstPaid
+  paid-career e = rw e
+
+  pub paid-final : formulaOf (p .formula) ≡ Final → let n = min (p .average) (k - m .entry) in paidWeights p rows m k ≡ summed (weight rows) (k - n) n
+  unfolding paidWeights firstPaid
+  paid-final e =
+      let n = min (p .average) (k - m .entry) in
+      let ages : k - (k - n) ≡ n = omega (arith, min-le-right (p .average) (k - m .entry)) in
+      rw (e, ages)
 
 -- ---- of an accepted plan
 module _ (p : Plan) (rows : List (List ℕ)) (accepted : planRefusal p rows ≡ 0) where
@@ -82,3 +112,12 @@ module _ (p : Plan) (rows : List (List ℕ)) (accepted : planRefusal p rows ≡ 
 
     pub years-most : (k : ℕ) → k ≤ p .retire → k - m .entry ≤ 60
     years-most k h = omega (arith, placed .grown, facts .head .retire .1)
+
+    pub paid-ages : (k : ℕ) → m .entry ≤ k → k ≤ p .retire → {first : ℕ} → first ≡ firstPaid (formulaOf (p .formula)) (p .average) (m .entry) k → PaidAges first k
+    paid-ages k from to e =
+        let among = first-paid-among (formulaOf (p .formula)) (p .average) (m .entry) k from in
+        record {
+          low = omega (arith, e, among .0, placed .grown);
+          le = omega (arith, e, among .1);
+          high = omega (arith, facts .head .retire .1);
+        }

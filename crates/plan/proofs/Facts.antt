@@ -12,7 +12,7 @@ use Rattle.annuity.specs.Basis.{death, withdrawal, disability, weight, Table}
 use Rattle.plan.specs.declared.Plan.{Plan}
 use Rattle.plan.specs.declared.Member.{Member}
 use Rattle.plan.specs.Rules.{unless, firstOf, between}
-use Rattle.plan.specs.Acceptance.{headRules, rowRules, rowOf, weightBefore, rowsRefusal, planRefusal, rises, fieldRules, benefitRules, memberRefusal, Placed, AcceptedMember}
+use Rattle.plan.specs.Acceptance.{headRules, rowRules, rowOf, weightBefore, rowsRefusal, planRefusal, fieldRules, benefitRules, memberRefusal, loneRefusal, Placed, AcceptedMember}
 use Rattle.plan.specs.Benefit.{B}
 use Rattle.plan.proofs.RuleLaws.{weight-passed}
 
@@ -162,25 +162,20 @@ placed-facts p before m e =
       paid = leb-true _ _ (kept (leb (m .salary) 100000000) 23 (k .1 .1 .1 .0));
     }
 
-rising-facts : (F : ℕ → ℕ) (n k : ℕ) → rises F k n ≡ true → (j : ℕ) → k ≤ j → j < k + n → F j ≤ F (j + 1)
-unfolding rises
-rising-facts F zero k e j from to = absurd (omega arith)
-rising-facts F (suc n) k e j from to =
-    let both = both-true (leb (F k) (F (suc k))) (rises F (suc k) n) e in
-    ⊎-elim
-    (λ (q : k ≡ j). let next : k + 1 ≡ suc k = omega arith in rw (← q, next) (leb-true _ _ (both .0)))
-    (λ (l : k < j). rising-facts F n (suc k) (both .1) j l (omega arith))
-    (eq-or-lt-of-le from)
-
 pub member-facts : (p : Plan) (rows : List (List ℕ)) (before : ℕ) (m : Member) → planRefusal p rows ≡ 0 → memberRefusal p rows before m ≡ 0 → AcceptedMember p rows m
 unfolding memberRefusal benefitRules
 member-facts p rows before m plan e =
     let halves = both-refusals (fieldRules p before m) (benefitRules p rows m) e in
     let k = all-kept (benefitRules p rows m) (halves .1) in
-    let placed = placed-facts p before m (halves .0) in
     record {
       plan = plan;
-      placed = placed;
+      placed = placed-facts p before m (halves .0);
       capped = leb-true _ _ (kept (leb (B p rows m (p .retire)) 100000000) 24 (k .0));
-      rising = λ j from to. rising-facts (B p rows m) (p .retire - m .entry) (m .entry) (kept (rises (B p rows m) (m .entry) (p .retire - m .entry)) 25 (k .1 .0)) j from (omega arith);
     }
+
+-- a lone member, after its plan
+pub lone-facts : (p : Plan) (rows : List (List ℕ)) (m : Member) → loneRefusal p rows m ≡ 0 → AcceptedMember p rows m
+unfolding loneRefusal
+lone-facts p rows m e =
+    let both = all-kept (planRefusal p rows ∷ memberRefusal p rows 0 m ∷ []) e in
+    member-facts p rows 0 m (both .0) (both .1 .0)

@@ -34,3 +34,13 @@ module _ (W : ℕ → ℕ) where
   unfolding summed
   summed-most w k zero h = omega arith
   summed-most w k (suc n) h = omega (arith, h k (omega arith) (omega arith), summed-most w (suc k) n (λ j from to. h j (omega arith) (omega arith)))
+
+  -- where the weights never fall, as many ages one year on weigh no less
+  pub summed-climbs : (k n : ℕ) → ((j : ℕ) → k ≤ j → j < k + n → W j ≤ W (j + 1)) → summed W k n ≤ summed W (k + 1) n
+  unfolding summed
+  summed-climbs k zero climbs = omega arith
+  summed-climbs k (suc n) climbs =
+      let next : k + 1 ≡ suc k = omega arith in
+      let after : suc k + 1 ≡ suc (suc k) = omega arith in
+      let first : W k ≤ W (suc k) = rw next at (climbs k (omega arith) (omega arith)) in
+      rw next (omega (arith, first, rw after at (summed-climbs (suc k) n (λ j from to. climbs j (omega arith) (omega arith)))))

@@ -91,11 +91,6 @@ unfoldable pub planRefusal : Plan → List (List ℕ) → ℕ
 planRefusal p rows = firstOf (firstOf (headRules p) ∷ rowsRefusal rows 15 106 ∷ [])
 
 -- ---- a member line
--- F never falls over the n years from age k on
-unfoldable pub rises : (F : ℕ → ℕ) → ℕ → ℕ → Bool
-rises F k zero = true
-rises F k (suc n) = leb (F k) (F (suc k)) && rises F (suc k) n
-
 -- rules 4.2 to 4.5: the id, the entry age, the age and the salary.
 -- `before` is the id of the member before, and 0 where there is none
 unfoldable pub fieldRules : Plan → (before : ℕ) → Member → List ℕ
@@ -106,12 +101,9 @@ fieldRules p before m =
     ∷ unless (leb (m .salary) 100000000) 24
     ∷ []
 
--- rule 7.8: B(r) is at most 1000000.00; rule 7.9: B never falls
+-- rule 7.8: B(r) is at most 1000000.00
 unfoldable pub benefitRules : Plan → List (List ℕ) → Member → List ℕ
-benefitRules p rows m =
-    unless (leb (B p rows m (p .retire)) 100000000) 25
-    ∷ unless (rises (B p rows m) (m .entry) (p .retire - m .entry)) 26
-    ∷ []
+benefitRules p rows m = unless (leb (B p rows m (p .retire)) 100000000) 25 ∷ []
 
 -- rule 12.4: from the smallest number up
 unfoldable pub memberRefusal : Plan → List (List ℕ) → (before : ℕ) → Member → ℕ
@@ -136,12 +128,11 @@ pub record Sums (rows : List (List ℕ)) (a : List ℕ) : Type 0 where
   pub size : length a ≡ 106
   pub each : (k : ℕ) → 15 ≤ k → k ≤ 120 → getD a (k - 15) 0 ≡ summed (weight rows) 15 (k - 15)
 
--- a member of an accepted plan that keeps rules 4.3 to 4.5, 7.8 and 7.9; its id plays no part in the figures
+-- a member of an accepted plan that keeps rules 4.3 to 4.5 and 7.8; its id plays no part in the figures
 pub record AcceptedMember (p : Plan) (rows : List (List ℕ)) (m : Member) : Type 0 where
   pub plan : planRefusal p rows ≡ 0
   pub placed : Placed p m
   pub capped : B p rows m (p .retire) ≤ 100000000
-  pub rising : (k : ℕ) → m .entry ≤ k → k < p .retire → B p rows m k ≤ B p rows m (k + 1)
 
 -- ---- the answers
 -- rule 5.3, a refusal number as an answer: the line of plain values is 0

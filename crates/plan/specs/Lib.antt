@@ -1,4 +1,5 @@
 pub mod Rules
-pub mod Weights
 pub mod Benefit
+pub mod Weights
 pub mod Acceptance
+pub mod Rising

@@ -1,7 +1,7 @@
 // Accepting, rule 5.3: the rules in the order of the lines. A refusal is its number, and 0 is none.
 use crate::Member;
 use crate::Plan;
-use crate::benefit::accrued_benefits;
+use crate::benefit::retirement_benefit;
 use crate::rules::assets_rule;
 use crate::rules::average_rule;
 use crate::rules::between;
@@ -19,13 +19,10 @@ use crate::rules::unless_between;
 use crate::rules::years_rule;
 ghost use mathlib.Core.Path.{_≡_};
 ghost use mathlib.Core.Bool.{_&&_};
-ghost use Prim.Native.Nat.{_-_, _≤_, _<_};
-ghost use lib.ListN.{getD};
 ghost use lib.Dec.{leb, ltb};
 ghost use Rattle.plan.specs.Rules.{firstOf};
 ghost use Rattle.plan.specs.Rules.{unless as Rules·unless, between as Rules·between};
-ghost use Rattle.plan.specs.Acceptance.{headRules, rowsRefusal, planRefusal, fieldRules, memberRefusal, loneRefusal, Accrued, AcceptedMember, answer};
-ghost use Rattle.plan.specs.Acceptance.{rises as Acceptance·rises};
+ghost use Rattle.plan.specs.Acceptance.{headRules, rowsRefusal, planRefusal, fieldRules, memberRefusal, loneRefusal, answer};
 
 // The heading, rules 2.2 to 2.9.
 pub fn head_refusal(p: Plan) -> u64
@@ -66,30 +63,17 @@ pub fn plan_refusal(p: Plan, rows: [[u32; 4]; 106]) -> u64
     or_else(head_refusal(p), or_else(rows_refusal(rows), 0))
 }
 
-// A refusal, and beside it the member's benefits. With a refusal the benefits are left open.
-pub struct Judged {
-    pub refusal: u64,
-    pub benefits: [u64; 106],
-}
-
-// A member of an accepted plan, after the member with the id `before`.
-pub fn judge_member(p: Plan, rows: [[u32; 4]; 106], before: u64, m: Member) -> Judged
-    requires { ⌜ planRefusal p rows ≡ 0 ⌝ }
-    ensures { λ j. ⌜ (j .refusal ≡ memberRefusal p rows before m) × (j .refusal ≡ 0 → Accrued p rows m (j .benefits)) ⌝ }
+// A member of an accepted plan, after the member with the id `before`. Of its benefit rule 7.8 looks at B(r) alone.
+pub fn member_refusal(p: Plan, rows: &[[u32; 4]; 106], before: u64, m: Member) -> u64
+    requires { ⌜ planRefusal p (now rows) ≡ 0 ⌝ }
+    ensures { λ r. ⌜ r ≡ memberRefusal p (now (rows .entry)) before m ⌝ }
 {
     let fields = fields_refusal(p, before, m);
     if fields != 0 {
-        return Judged {
-            refusal: fields,
-            benefits: [0u64; 106],
-        };
+        return fields;
     }
-    let benefits = accrued_benefits(p, rows, m);
-    let rise = rises(benefits, m.entry as usize, p.retire as usize);
-    let top = benefits[p.retire as usize - 15];
-    let falls = or_else(unless(rise, 26), 0);
-    let refusal = or_else(unless(top <= 100_000_000, 25), falls);
-    Judged { refusal, benefits }
+    let top = retirement_benefit(p, rows, m);
+    or_else(unless(top <= 100_000_000, 25), 0)
 }
 
 // The member's fields alone, rules 4.2 to 4.5.
@@ -114,21 +98,6 @@ fn id_rule(before: u64, id: u64) -> u64
     unless(both(between(1, 999_999_999, id), before < id), 21)
 }
 
-// Rule 7.9: whether what an array holds never falls from the age `from` to the age `to`.
-fn rises(a: [u64; 106], from: usize, to: usize) -> bool
-    requires { ⌜ (15 ≤ from) × (to ≤ 120) ⌝ }
-    ensures { λ r. ⌜ r ≡ Acceptance·rises (λ k. getD a (k - 15) 0) from (to - from) ⌝ }
-{
-    let mut k = from;
-    while k < to {
-        if a[k - 14] < a[k - 15] {
-            return false;
-        }
-        k += 1;
-    }
-    true
-}
-
 // The answer of an entry: accepted, or a refusal's number and line. The line of plain values is 0.
 pub enum Acceptance {
     Accepted,
@@ -151,24 +120,20 @@ pub fn accept_plan(p: Plan, rows: [[u32; 4]; 106]) -> Acceptance
     answer_of(plan_refusal(p, rows))
 }
 
-// A lone member of a plan, judged after the plan, with its benefits beside the refusal.
-pub fn judge_lone_member(p: Plan, rows: [[u32; 4]; 106], m: Member) -> Judged
-    ensures { λ j. ⌜ (j .refusal ≡ loneRefusal p rows m) × (j .refusal ≡ 0 → AcceptedMember p rows m) × (j .refusal ≡ 0 → Accrued p rows m (j .benefits)) ⌝ }
+// A lone member of a plan, after the plan.
+pub fn lone_refusal(p: Plan, rows: [[u32; 4]; 106], m: Member) -> u64
+    ensures { λ r. ⌜ r ≡ loneRefusal p rows m ⌝ }
 {
     let refusal = plan_refusal(p, rows);
     if refusal != 0 {
-        return Judged {
-            refusal,
-            benefits: [0u64; 106],
-        };
+        return refusal;
     }
-    judge_member(p, rows, 0, m)
+    member_refusal(p, &rows, 0, m)
 }
 
 // Accepts a lone member of a plan.
 pub fn accept_member(p: Plan, rows: [[u32; 4]; 106], m: Member) -> Acceptance
     ensures { λ r. ⌜ r ≡ answer (loneRefusal p rows m) ⌝ }
 {
-    let judged = judge_lone_member(p, rows, m);
-    answer_of(judged.refusal)
+    answer_of(lone_refusal(p, rows, m))
 }

@@ -8,7 +8,7 @@ ghost use Prim.Native.Nat.{_-_, _*_, _≤_, _<_, min};
 ghost use lib.ListN.{getD};
 ghost use Rattle.rounding.specs.Nearest.{nearest};
 ghost use Rattle.annuity.specs.Basis.{Table, weight};
-ghost use Rattle.plan.specs.Weights.{summed};
+ghost use Rattle.plan.specs.Weights.{summed, firstPaid, paidWeights};
 ghost use Rattle.plan.specs.Benefit.{formulaOf, B};
 ghost use Rattle.plan.specs.Acceptance.{planRefusal, Placed, Accrued, Sums};
 
@@ -70,18 +70,37 @@ fn weights(sums: &[u64; 106], a: u64, b: u64) -> u64
     sums[b as usize - 15] - sums[a as usize - 15]
 }
 
-// The weights of the ages from a to b - 1, summed.
-pub fn weights_between(rows: [[u32; 4]; 106], a: u64, b: u64) -> u64
-    requires { ⌜ Table rows × (15 ≤ a) × (a ≤ b) × (b ≤ 120) ⌝ }
-    ensures { λ r. ⌜ r ≡ summed (weight rows) a (b - a) ⌝ }
+// The weights of the ages from a to b - 1, added up: for one sum alone.
+pub fn weights_between(rows: &[[u32; 4]; 106], a: u64, b: u64) -> u64
+    requires { ⌜ Table (now rows) × (15 ≤ a) × (a ≤ b) × (b ≤ 120) ⌝ }
+    ensures { λ r. ⌜ r ≡ summed (weight (now (rows .entry))) a (b - a) ⌝ }
 {
-    let sums = summed_weights(rows);
-    weights(&sums, a, b)
+    let mut sum: u64 = 0;
+    let mut k = a;
+    while k < b {
+        let row = rows[k as usize - 15];
+        sum += wide(row[3]);
+        k += 1;
+    }
+    sum
 }
 
-// Rules 7.3 to 7.7, B(k): what has accrued by age k.
-fn benefit(p: Plan, rows: &[[u32; 4]; 106], sums: &[u64; 106], m: Member, k: u64) -> u64
-    requires { ⌜ (planRefusal p (now rows) ≡ 0) × Placed p m × Sums (now rows) (now sums) × (m .entry ≤ k) × (k ≤ p .retire) ⌝ }
+// The first of the ages whose pay B(k) rests on.
+fn first_paid(p: Plan, entry: u64, k: u64) -> u64
+    requires { ⌜ entry ≤ k ⌝ }
+    ensures { λ a. ⌜ a ≡ firstPaid (formulaOf (p .formula)) (p .average) entry k ⌝ }
+{
+    let formula = formula_of(p.formula);
+    match formula {
+        Formula::Flat => k,
+        Formula::Career => entry,
+        Formula::Final => k - least(p.average, k - entry),
+    }
+}
+
+// Rules 7.3 to 7.7, B(k): what has accrued by age k, from the summed weights of the ages whose pay it rests on.
+fn benefit(p: Plan, rows: &[[u32; 4]; 106], m: Member, k: u64, weights: u64) -> u64
+    requires { ⌜ (planRefusal p (now rows) ≡ 0) × Placed p m × (m .entry ≤ k) × (k ≤ p .retire) × (weights ≡ paidWeights p (now rows) m k) ⌝ }
     ensures { λ r. ⌜ r ≡ B p (now (rows .entry)) m k ⌝ }
 {
     let entry = m.entry;
@@ -94,12 +113,27 @@ fn benefit(p: Plan, rows: &[[u32; 4]; 106], sums: &[u64; 106], m: Member, k: u64
     let formula = formula_of(p.formula);
     match formula {
         Formula::Flat => p.unit * years,
-        Formula::Career => career(p.unit, m.salary, weights(sums, entry, k), now),
+        Formula::Career => career(p.unit, m.salary, weights, now),
         Formula::Final => {
-            let n = least(p.average, years);
-            final_average(p.unit, years, m.salary, weights(sums, k - n, k), n, now)
+            final_average(
+                p.unit,
+                years,
+                m.salary,
+                weights,
+                least(p.average, years),
+                now,
+            )
         }
     }
+}
+
+// B(r) alone.
+pub fn retirement_benefit(p: Plan, rows: &[[u32; 4]; 106], m: Member) -> u64
+    requires { ⌜ (planRefusal p (now rows) ≡ 0) × Placed p m ⌝ }
+    ensures { λ r. ⌜ r ≡ B p (now (rows .entry)) m (p .retire) ⌝ }
+{
+    let first = first_paid(p, m.entry, p.retire);
+    benefit(p, rows, m, p.retire, weights_between(rows, first, p.retire))
 }
 
 // B(k) for each age from entry to retirement.
@@ -112,7 +146,8 @@ pub fn accrued_benefits(p: Plan, rows: [[u32; 4]; 106], m: Member) -> [u64; 106]
     let mut benefits = [0u64; 106];
     let mut k = m.entry;
     while k <= retire {
-        benefits[k as usize - 15] = benefit(p, &rows, &sums, m, k);
+        let first = first_paid(p, m.entry, k);
+        benefits[k as usize - 15] = benefit(p, &rows, m, k, weights(&sums, first, k));
         k += 1;
     }
     benefits

@@ -12,7 +12,7 @@ use Rattle.annuity.specs.Figures.{short, Figure, _is_, all-are, factors}
 use Rattle.plan.specs.declared.Plan.{Plan}
 use Rattle.plan.specs.Weights.{summed}
 use Rattle.plan.specs.Benefit.{formulaOf, pay, pays, exactBenefit, B}
-use Rattle.plan.specs.Acceptance.{loneRefusal, planRefusal, headRules, rowsRefusal, rowRules, memberRefusal, fieldRules, benefitRules, rises}
+use Rattle.plan.specs.Acceptance.{loneRefusal, planRefusal, headRules, rowsRefusal, rowRules, memberRefusal, fieldRules, benefitRules}
 use Rattle.costs.specs.Costs.{PV, cost, N, L}
 use Rattle.costs.specs.Valuation.{methodOf, figuresAt, figures}
 use Rattle.costs.specs.Figures.{short-plan, short-member, figures as member-figures}
@@ -37,7 +37,7 @@ proved-set =
     ∷ []
 
 pub proved-set-stands : all-are proved-set ≡ true
-unfolding proved-set total unfunded supplemental member-figures factors short stays staying nearest nearestℤ carried step A pension G T Z C _over_ whole _⊕_ _⊗_ inverse summed formulaOf pay pays exactBenefit B PV cost N L loneRefusal planRefusal headRules rowsRefusal rowRules memberRefusal fieldRules benefitRules rises
+unfolding proved-set total unfunded supplemental member-figures factors short stays staying nearest nearestℤ carried step A pension G T Z C _over_ whole _⊕_ _⊗_ inverse summed formulaOf pay pays exactBenefit B PV cost N L loneRefusal planRefusal headRules rowsRefusal rowRules memberRefusal fieldRules benefitRules
 proved-set-stands = refl
 
 -- rule 14.2: the short case, as it is printed

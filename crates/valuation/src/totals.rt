@@ -10,8 +10,6 @@ ghost use lib.IntN.{pos, _-ℤ_, _*ℤ_};
 ghost use Rattle.rounding.specs.Nearest.{nearestℤ};
 ghost use Rattle.rounding.specs.Signed.{integer, signed};
 ghost use Rattle.annuity.specs.Factors.{S as Factors·S, C};
-ghost use Rattle.plan.specs.Acceptance.{AcceptedMember};
-ghost use Rattle.costs.specs.Valuation.{figures};
 ghost use Rattle.casefile.specs.Stored.{memberAt};
 ghost use Rattle.valuation.specs.Totals.{totals};
 ghost use Rattle.valuation.specs.Worked.{AcceptedMembers, storedFigures, words, membersIn, Worked};
@@ -59,15 +57,6 @@ fn put_figures(worked: &mut [u64; 4000], j: usize, f: Figures)
     worked[j * 4 + 3] = f.liability;
 }
 
-// The figures of an accepted member, by factors of its own.
-fn figures_of(p: Plan, rows: [[u32; 4]; 106], m: Member) -> Figures
-    requires { ⌜ AcceptedMember p rows m ⌝ }
-    ensures { λ f. ⌜ f ≡ figures p rows m ⌝ }
-{
-    let benefits = plan::benefit::accrued_benefits(p, rows, m);
-    costs::figures_of(p, rows, m, benefits)
-}
-
 // Works each member's figures into the array, and sums them. Past the last member the array is left open. It is written
 // whole first, so that its length is known to the proof.
 pub(crate) fn work(
@@ -87,7 +76,7 @@ pub(crate) fn work(
     let mut liability = 0;
     let mut j = 0;
     while j < count {
-        let f = figures_of(p, rows, member_at(members, j));
+        let f = costs::figures_of(p, rows, member_at(members, j));
         put_figures(worked, j, f);
         value += f.value;
         cost += f.cost;

@@ -6,7 +6,7 @@ use native.Mathlib.Omega.{arith}
 use Rattle.rounding.specs.Nearest.{nearest}
 use Rattle.annuity.specs.Factors.{S}
 use Rattle.costs.specs.Costs.{cost}
-use Rattle.costs.proofs.Needs.{in-table, benefit-at, benefit-small, deferred-at, deferred-small}
+use Rattle.costs.proofs.Needs.{sound, in-table, benefit-at, benefit-small, deferred-at, deferred-small}
 use borrow.Author.Needs.{needs}
 use Rattle.costs.proofs.cost.accrued_benefit.Statement.{statement}
 use Rattle.costs.proofs.cost.accrued_benefit.Tie as tie
@@ -26,7 +26,7 @@ sub-year c =
     let k = s .args .k in
     let now = c .of-age2 .ensures ∙ benefit-at (s .pre .0) k (s .pre .1) (le-of-lt (s .pre .2)) in
     let next = c .before .of-age .ensures ∙ benefit-at (s .pre .0) (k + 1) (omega (arith, s .pre .1)) (omega (arith, s .pre .2)) in
-    omega (arith, now, next, s .pre .0 .accepted .rising k (s .pre .1) (s .pre .2))
+    omega (arith, now, next, sound (s .args .p) (s .args .rows .now) (s .args .m) (s .pre .0 .accepted) .rises k (s .pre .1) (s .pre .2))
 
 of-age-requires-3 : tie.Need-of-age-requires-3
 of-age-requires-3 c κs = let s = c .before .before in in-table (s .pre .0) (s .args .k) (s .pre .1) (le-of-lt (s .pre .2))

@@ -15,17 +15,17 @@ present-value-requires c κs = search needs
 
 weights-between-requires : tie.Need-weights-between-requires
 weights-between-requires c κs =
-    let s = c .before .before in
+    let s = c .before in
     let a = s .args in
     let f = facts (a .p) (a .rows .now) (a .m) (s .pre .0 .accepted) in
     (f .table, s .pre .0 .accepted .placed .grown, entered (a .p) (a .rows .now) (a .m) (s .pre .0 .accepted), omega (arith, s .pre .1, s .pre .2, f .head .retire .1))
 
 weight-requires : tie.Need-weight-requires
-weight-requires c κs = let s = c .before .before .before .before in in-table (s .pre .0) (s .args .k) (s .pre .1) (le-of-lt (s .pre .2))
+weight-requires c κs = let s = c .before .before .before in in-table (s .pre .0) (s .args .k) (s .pre .1) (le-of-lt (s .pre .2))
 
 share-requires : tie.Need-share-requires
 share-requires c κs =
-    let s = c .before .before .before .before .before in
+    let s = c .before .before .before .before in
     let a = s .args in (
       rw (c .before .before .weights-between .ensures) (weights-some (a .p) (a .rows .now) (a .m) (s .pre .0 .accepted)),
       rw (c .weight .ensures, c .before .before .weights-between .ensures) (weight-among (a .p) (a .rows .now) (a .m) (s .pre .0 .accepted) (a .k) (s .pre .1) (s .pre .2)),
@@ -35,7 +35,7 @@ returns : tie.Need-returns
 unfolding cost
 returns c =
     c .share .ensures
-    ∙ (λ i. nearest (c .before .before .before .before .before .present-value .ensures i * c .before .weight .ensures i) (c .before .before .before .weights-between .ensures i))
+    ∙ (λ i. nearest (c .before .before .before .before .present-value .ensures i * c .before .weight .ensures i) (c .before .before .before .weights-between .ensures i))
 
 pub benefit-by-pay-spec : {M : Type 1} → statement M
 benefit-by-pay-spec =

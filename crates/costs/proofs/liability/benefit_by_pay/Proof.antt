@@ -14,31 +14,31 @@ present-value-requires c κs = search needs
 
 weights-between-requires : tie.Need-weights-between-requires
 weights-between-requires c κs =
-    let s = c .before .before in
+    let s = c .before in
     let a = s .args in
     let f = facts (a .p) (a .rows .now) (a .m) (s .pre .0 .accepted) in
     (f .table, s .pre .0 .accepted .placed .grown, s .pre .1, omega (arith, s .pre .1, s .pre .2, f .head .retire .1))
 
 weights-between-requires-2 : tie.Need-weights-between-requires-2
 weights-between-requires-2 c κs =
-    let s = c .before .before .before .before in
+    let s = c .before .before in
     let a = s .args in
     let f = facts (a .p) (a .rows .now) (a .m) (s .pre .0 .accepted) in
     (f .table, s .pre .0 .accepted .placed .grown, entered (a .p) (a .rows .now) (a .m) (s .pre .0 .accepted), omega (arith, s .pre .1, s .pre .2, f .head .retire .1))
 
 share-requires : tie.Need-share-requires
 share-requires c κs =
-    let s = c .before .before .before .before .before in
+    let s = c .before .before .before in
     let a = s .args in (
       rw (c .weights-between2 .ensures) (weights-some (a .p) (a .rows .now) (a .m) (s .pre .0 .accepted)),
-      rw (c .before .before .weights-between .ensures, c .weights-between2 .ensures) (past-among (a .p) (a .rows .now) (a .m) (s .pre .0 .accepted) (a .k) (s .pre .1) (s .pre .2)),
+      rw (c .before .weights-between .ensures, c .weights-between2 .ensures) (past-among (a .p) (a .rows .now) (a .m) (s .pre .0 .accepted) (a .k) (s .pre .1) (s .pre .2)),
     )
 
 returns : tie.Need-returns
 unfolding L
 returns c =
     c .share .ensures
-    ∙ (λ i. nearest (c .before .before .before .before .before .present-value .ensures i * c .before .before .before .weights-between .ensures i) (c .before .weights-between2 .ensures i))
+    ∙ (λ i. nearest (c .before .before .before .present-value .ensures i * c .before .before .weights-between .ensures i) (c .before .weights-between2 .ensures i))
 
 pub benefit-by-pay-spec : {M : Type 1} → statement M
 benefit-by-pay-spec =

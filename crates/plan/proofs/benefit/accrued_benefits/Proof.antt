@@ -1,11 +1,14 @@
 -- `plan::benefit::accrued_benefits` meets its contract.
-use mathlib.Core.Path.{_≡_, refl}
-use Prim.Native.Nat.{_+_, _-_, _≤_}
+use mathlib.Core.Path.{_≡_, refl, ap, _∙_}
+use Prim.Native.Nat.{ℕ, _+_, _-_, _≤_}
 use native.Mathlib.Nat.{le-refl}
 use native.Mathlib.Omega.{arith}
+use Rattle.annuity.specs.Basis.{weight}
+use Rattle.plan.specs.Weights.{summed, paidWeights}
 use Rattle.plan.specs.Benefit.{B}
 use Rattle.plan.proofs.Upward.{Upto, upto-more}
 use Rattle.plan.proofs.Facts.{plan-facts}
+use Rattle.plan.proofs.BenefitNeeds.{sums-rise, sums-differ, PaidAges, paid-ages}
 use Rattle.plan.proofs.benefit.accrued_benefits.Statement.{statement}
 use Rattle.plan.proofs.benefit.accrued_benefits.Tie as tie
 
@@ -24,32 +27,55 @@ loop-holds c =
     let s = c .before in
     (refl, le-refl (s .args .m .entry), omega (arith, s .pre .1 .enters), record { size = refl; each = λ k from to. absurd (omega arith) })
 
+first-paid-requires : tie.Need-first-paid-requires Inv-loop μ-loop
+first-paid-requires c κs = c .before .loop .inv .1
+
+ages : (c : tie.After-first-paid Inv-loop μ-loop) → PaidAges (c .first-paid .result) (c .before .before .loop .k)
+ages c =
+    let s = c .before .before .before .before in
+    let l = c .before .before .loop in
+    paid-ages (s .args .p) (s .args .t2) (s .pre .0) (s .args .m) (s .pre .1) (l .k) (l .inv .1) (omega (arith, c .before .loop-test .taken, l .inv .0)) (c .first-paid .ensures)
+
+weights-requires : tie.Need-weights-requires Inv-loop μ-loop
+weights-requires c κs =
+    let s = c .before .before .before .before .before .before in
+    let at = ages (c .before .before) in
+    let first = c .before .before .first-paid .result in
+    let k = c .before .before .before .before .loop .k in
+    (at .low, omega (arith, at .le, at .high), omega (arith, at .low, at .le), at .high, sums-rise (s .args .t2) first k (at .low) (at .le) (at .high) (c .before .before .before .before .before .summed-weights .result) (c .before .before .before .before .before .summed-weights .ensures))
+
 benefit-requires : tie.Need-benefit-requires Inv-loop μ-loop
+unfolding paidWeights
 benefit-requires c κs =
-    let s = c .before .before .before .before .before in
-    let l = c .before .before .before .loop in
-    (s .pre .0, s .pre .1, c .before .before .before .before .summed-weights .ensures, l .inv .1, omega (arith, l .inv .0))
+    let s = c .before .before .before .before .before .before .before in
+    let l = c .before .before .before .before .before .loop in
+    let first = c .before .before .before .first-paid in
+    let at = ages (c .before .before .before) in
+    let sums = c .before .before .before .before .before .before .summed-weights in
+    let W = weight (s .args .t2) in
+    let total = c .weights .ensures ∙ sums-differ (s .args .t2) (first .result) (l .k) (at .low) (at .le) (at .high) (sums .result) (sums .ensures) in
+    (s .pre .0, s .pre .1, l .inv .1, omega (arith, l .inv .0), total ∙ ap (λ (a : ℕ). summed W a (l .k - a)) (first .ensures))
 
 sub-benefits : tie.Need-sub-benefits Inv-loop μ-loop
-sub-benefits c = let s = c .before .before .before .before .before .before in omega (arith, s .pre .1 .grown)
+sub-benefits c = omega (arith, c .before .before .before .before .before .before .before .before .pre .1 .grown, c .before .before .before .before .before .before .loop .inv .1)
 
 mul-benefits : tie.Need-mul-benefits Inv-loop μ-loop
-mul-benefits c = let s = c .before .before .before .before .before .before in omega (arith, plan-facts (s .args .p) (s .args .t2) (s .pre .0) .head .retire .1)
+mul-benefits c = omega (arith, ages (c .before .before .before .before) .high)
 
 array-write-benefits : tie.Need-array-write-benefits Inv-loop μ-loop
-array-write-benefits c = let s = c .before .before .before .before .before .before in omega (arith, s .pre .1 .grown, c .before .before .before .before .loop .inv .3 .size, plan-facts (s .args .p) (s .args .t2) (s .pre .0) .head .retire .1)
+array-write-benefits c = let l = c .before .before .before .before .before .before .loop in omega (arith, c .before .before .before .before .before .before .before .before .pre .1 .grown, l .inv .1, l .inv .3 .size, ages (c .before .before .before .before) .high)
 
 add-k : tie.Need-add-k Inv-loop μ-loop
-add-k c = let s = c .before .before .before .before .before .before in omega (arith, plan-facts (s .args .p) (s .args .t2) (s .pre .0) .head .retire .1)
+add-k c = omega (arith, ages (c .before .before .before .before) .high)
 
 loop-less : tie.Need-loop-less Inv-loop μ-loop
-loop-less c = omega (arith, c .before .before .before .before .loop .inv .0)
+loop-less c = omega (arith, c .before .before .before .before .before .before .loop .inv .0)
 
 loop-again : tie.Need-loop-again Inv-loop μ-loop
 loop-again c =
-    let s = c .before .before .before .before .before .before in
-    let l = c .before .before .before .before .loop in
-    (l .inv .0, omega arith, omega (arith, l .inv .0), upto-more (B (s .args .p) (s .args .t2) (s .args .m)) (s .args .m .entry) (l .k) (c .benefit .result) (s .pre .1 .grown) (l .inv .1) (omega (arith, l .inv .0, plan-facts (s .args .p) (s .args .t2) (s .pre .0) .head .retire .1)) (c .benefit .ensures) (l .inv .3))
+    let s = c .before .before .before .before .before .before .before .before in
+    let l = c .before .before .before .before .before .before .loop in
+    (l .inv .0, omega arith, omega (arith, l .inv .0), upto-more (B (s .args .p) (s .args .t2) (s .args .m)) (s .args .m .entry) (l .k) (c .benefit .result) (s .pre .1 .grown) (l .inv .1) (ages (c .before .before .before .before) .high) (c .benefit .ensures) (l .inv .3))
 
 returns : tie.Need-returns Inv-loop μ-loop
 returns c =
@@ -64,6 +90,8 @@ accrued-benefits-spec =
     μ-loop
     summed-weights-requires
     loop-holds
+    first-paid-requires
+    weights-requires
     benefit-requires
     sub-benefits
     mul-benefits

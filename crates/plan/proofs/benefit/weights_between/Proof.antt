@@ -1,27 +1,91 @@
 -- `plan::benefit::weights_between` meets its contract.
-use mathlib.Core.Path.{_∙_}
+use mathlib.Core.Path.{_≡_, refl, sym, _∙_}
+use Prim.Native.Nat.{_+_, _-_, _≤_}
+use native.Mathlib.Nat.{le-refl}
 use native.Mathlib.Omega.{arith}
-use Rattle.plan.proofs.BenefitNeeds.{sums-rise, sums-differ}
+use Rattle.annuity.specs.Basis.{weight}
+use Rattle.plan.specs.Weights.{summed}
+use Rattle.plan.proofs.WeightLaws.{summed-more, summed-most}
 use borrow.Author.Needs.{needs}
 use Rattle.plan.proofs.benefit.weights_between.Statement.{statement}
 use Rattle.plan.proofs.benefit.weights_between.Tie as tie
 
-summed-weights-requires : tie.Need-summed-weights-requires
-summed-weights-requires c κs = search needs
+abbrev Inv-loop : tie.InvT-loop
+Inv-loop rows a b sum₀ k₀ sum k =
+    (a ≤ k) × (k ≤ b) × (sum ≡ summed (weight rows) a (k - a))
 
-weights-requires : tie.Need-weights-requires
-weights-requires c κs =
-    let s = c .before .before in
-    let a = s .args in
-    let sums = c .before .summed-weights in
-    (s .pre .1, omega arith, omega arith, s .pre .3, sums-rise (a .rows) (s .pre .0) (sums .result) (sums .ensures) (a .a) (a .b) (s .pre .1) (s .pre .2) (s .pre .3))
+abbrev μ-loop : tie.MeasureT-loop
+μ-loop rows a b sum₀ k₀ sum k = b - k
 
-returns : tie.Need-returns
+loop-holds : tie.Need-loop-holds Inv-loop μ-loop
+unfolding summed
+loop-holds c =
+    let a = c .args .a in
+    let none : a - a ≡ 0 = omega arith in
+    (le-refl a, c .pre .2, rw none)
+
+sub-row : tie.Need-sub-row Inv-loop μ-loop
+sub-row c = omega (arith, c .before .loop .inv .0, c .before .before .pre .1)
+
+mul-row : tie.Need-mul-row Inv-loop μ-loop
+mul-row c = omega (arith, c .before .before .pre .3)
+
+element-copy-out-row : tie.Need-element-copy-out-row Inv-loop μ-loop
+element-copy-out-row c = omega (arith, c .before .loop .inv .0, c .before .before .pre .1, c .before .before .pre .3)
+
+array-read-wide : tie.Need-array-read-wide Inv-loop μ-loop
+array-read-wide c = search needs
+
+wide-requires : tie.Need-wide-requires Inv-loop μ-loop
+wide-requires c κs = search needs
+
+-- a turn adds the weight of its age
+added : (c : tie.After-wide Inv-loop μ-loop) → let l = c .before .before .before .loop in let a = c .before .before .before .before .args in
+    l .sum + c .wide .result ≡ summed (weight (a .rows .now)) (a .a) (l .k + 1 - a .a)
+added c =
+    let l = c .before .before .before .loop in
+    let a = c .before .before .before .before .args in
+    let more : l .k + 1 - a .a ≡ l .k - a .a + 1 = omega (arith, l .inv .0) in
+    let here : a .a + (l .k - a .a) ≡ l .k = omega (arith, l .inv .0) in
+    rw more ((λ i. l .inv .2 i + c .wide .ensures .0 i) ∙ sym (summed-more (weight (a .rows .now)) (a .a) (l .k - a .a) ∙ rw here))
+
+add-sum : tie.Need-add-sum Inv-loop μ-loop
+add-sum c =
+    let l = c .before .before .before .loop in
+    let s = c .before .before .before .before in
+    let years : l .k + 1 - s .args .a ≤ 120 = omega (arith, c .before .before .loop-test .taken, s .pre .3) in
+    omega (arith, added c, years, summed-most (weight (s .args .rows .now)) 100000 (s .args .a) (l .k + 1 - s .args .a) (λ j from to. s .pre .0 .weights j (omega (arith, s .pre .1)) (omega (arith, s .pre .3, l .inv .0, c .before .before .loop-test .taken))))
+
+add-k : tie.Need-add-k Inv-loop μ-loop
+add-k c = omega (arith, c .before .before .before .before .pre .3)
+
+loop-less : tie.Need-loop-less Inv-loop μ-loop
+loop-less c = search needs
+
+loop-again : tie.Need-loop-again Inv-loop μ-loop
+loop-again c = let l = c .before .before .before .loop in (omega (arith, l .inv .0), omega arith, added c)
+
+returns : tie.Need-returns Inv-loop μ-loop
 returns c =
-    let s = c .before .before .before in
-    let a = s .args in
-    let sums = c .before .before .summed-weights in
-    c .weights .ensures ∙ sums-differ (a .rows) (s .pre .0) (sums .result) (sums .ensures) (a .a) (a .b) (s .pre .1) (s .pre .2) (s .pre .3)
+    let l = c .before .loop in
+    let a = c .before .before .args in
+    let done : l .k ≡ a .b = omega (arith, l .inv .1) in
+    rw (← done) (l .inv .2)
 
 pub weights-between-spec : {M : Type 1} → statement M
-weights-between-spec = tie.close (tie.spec summed-weights-requires weights-requires returns)
+weights-between-spec =
+    tie.close
+    (tie.spec
+    Inv-loop
+    μ-loop
+    loop-holds
+    sub-row
+    mul-row
+    element-copy-out-row
+    array-read-wide
+    wide-requires
+    add-sum
+    add-k
+    loop-less
+    loop-again
+    returns)

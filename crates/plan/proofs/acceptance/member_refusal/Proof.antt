@@ -1,0 +1,54 @@
+-- `plan::acceptance::member_refusal` meets its contract.
+use mathlib.Core.Path.{_≡_, refl, sym, ap, _∙_}
+use Prim.Native.Nat.{ℕ}
+use lib.Dec.{leb}
+use Rattle.plan.specs.Rules.{unless}
+use Rattle.plan.specs.Acceptance.{benefitRules}
+use Rattle.plan.proofs.RuleLaws.{in-order}
+use Rattle.plan.proofs.Facts.{placed-facts, fields-refused, fields-kept}
+use borrow.Author.Needs.{needs}
+use Rattle.plan.proofs.acceptance.member_refusal.Statement.{statement}
+use Rattle.plan.proofs.acceptance.member_refusal.Tie as tie
+
+fields-refusal-requires : tie.Need-fields-refusal-requires
+fields-refusal-requires c κs = search needs
+
+returns : tie.Need-returns
+returns c =
+    let a = c .before .before .args in
+    let e = c .before .fields-refusal .ensures in
+    e ∙ sym (fields-refused (a .p) (a .rows .now) (a .before) (a .m) (λ z. c .if1 .taken (e ∙ z)))
+
+-- fields that are right place the member
+retirement-benefit-requires : tie.Need-retirement-benefit-requires
+retirement-benefit-requires c κs =
+    let s = c .before .before in
+    let a = s .args in
+    (s .pre, placed-facts (a .p) (a .before) (a .m) (sym (c .before .fields-refusal .ensures) ∙ c .if1 .left))
+
+unless-requires : tie.Need-unless-requires
+unless-requires c κs = search needs
+
+or-else-requires : tie.Need-or-else-requires
+or-else-requires c κs = search needs
+
+returns-2 : tie.Need-returns-2
+unfolding benefitRules
+returns-2 c =
+    let s = c .before .before .before .before .before in
+    let a = s .args in
+    let fields = c .before .before .before .before .fields-refusal .ensures in
+    let top = c .before .before .retirement-benefit .ensures in
+    in-order (c .or-else .ensures) (c .before .unless .ensures ∙ ap (λ (x : ℕ). unless (leb x 100000000) 25) top) refl
+    ∙ sym (fields-kept (a .p) (a .rows .now) (a .before) (a .m) (sym fields ∙ c .before .before .before .if1 .left))
+
+pub member-refusal-spec : {M : Type 1} → statement M
+member-refusal-spec =
+    tie.close
+    (tie.spec
+    fields-refusal-requires
+    returns
+    retirement-benefit-requires
+    unless-requires
+    or-else-requires
+    returns-2)
