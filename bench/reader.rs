@@ -91,7 +91,7 @@ pub fn accrued_benefits(plan: &Plan, rows: &Rows, m: &Member) -> [u64; AGES] {
     benefits
 }
 
-/// B(k), from the summed weights of the ages from one on up to k. One word holds these products: the largest is
+/// B(k), where `weights(a)` sums the weights of the ages from a to k - 1. One word holds these products: the largest is
 /// 500 * 60 * 100,000,000 * 1,000,000.
 fn benefit(plan: &Plan, rows: &Rows, m: &Member, k: u64, weights: impl Fn(u64) -> u64) -> u64 {
     let years = k - m.entry;

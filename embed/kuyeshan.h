@@ -29,7 +29,7 @@
  *     27  a member line after 1,000 members
  *   the calling program mends:
  *     30  what is to be printed is longer than the buffer
- * 26 is retired, and never given again.
+ * 26 is retired: it was for a benefit that falls, and none does. It is never given again.
  *
  * Memory: all of it is the caller's. No pointer is null, not even with a length of 0, and what one of them points to
  * overlaps nothing that another one points to. The library keeps no pointer, allocates nothing and has no state, so

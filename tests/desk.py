@@ -560,13 +560,10 @@ def check_broken_program(copy, table):
         hold_answer(f'the answer {answer}', answer, 2, b'', broken)
     hold_answer('a program that fails', GOOD_LINES, 2, b'', broken, 'exit 1')
     hold_answer('a program that is killed', GOOD_LINES, 2, b'', broken, f'kill -{int(signal.SIGKILL)} $$')
-    for number, line in ((25, 115), (30, 0)):
-        who, what = table[number]
-        where = f':{line}' if line else ''
-        quote = ': "member=7,63,64,0.00"' if line else ''
-        answer = f'refused={number},{line}\n'.encode()
-        hold_answer(f'refusal {number}', answer, 1, answer,
-                    f'standard input{where}: refused {number}, {what}{quote} ({who} mends it)\n')
+    # No file gives 30.
+    who, what = table[30]
+    hold_answer('refusal 30', b'refused=30,0\n', 1, b'refused=30,0\n',
+                f'standard input: refused 30, {what} ({who} mends it)\n')
     copy.program.chmod(0o644)
     hold('a program that may not be run', copy.run(stdin=GOOD), 2, b'',
          f"standard input: the program can't be run: {os.strerror(errno.EACCES)}\n")
@@ -599,11 +596,13 @@ def check_own_fault(copy):
 
 def words():
     """By number, who mends it and what is wrong; in the order of the table."""
+    if RETIRED & RULES:
+        sys.exit(f'desk: {RETIRED & RULES} was retired, and is in use again')
     first, *rest = [line.split('\t') for line in TABLE.read_text(encoding='utf-8').splitlines()]
     if first != ['number', 'who mends it', 'what is wrong'] or sorted(rest, key=lambda line: int(line[0])) != rest:
         sys.exit(f'desk: {TABLE.name} is out of order')
     table = {int(number): (who, what) for number, who, what in rest}
-    if len(table) != len(rest) or set(table) != RULES or RETIRED & set(table):
+    if len(table) != len(rest) or set(table) != RULES:
         sys.exit(f'desk: {TABLE.name} has the refusals {[line[0] for line in rest]}')
     return table
 

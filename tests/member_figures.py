@@ -6,7 +6,7 @@
 A case is a plan, its rows and a member. It goes to the program as bytes, a number's little end first, and the program
 answers with three lines: what accepting the plan says, what accepting the member says, and its figures in cents, or the
 number of a refusal. The check also holds each V, N and L to the limits on their distance from the exact fractions (N and
-L: rule 10.9), and each exact L to its future-cost form (rule 10.8).
+L: rule 10.9), each exact L to its future-cost form (rule 10.8), and each benefit to that of the age before (rule 7.9).
 """
 import random
 import struct
@@ -413,8 +413,8 @@ def falls(case):
 
 
 def check_rising(cases):
-    """Rule 7.9 by the oracle: no benefit falls of a member that is accepted, or refused with 25. With the weights the other
-    way round some do, so that this check can fail. How many it looked at."""
+    """Rule 7.9 by the oracle: no member that is accepted, or refused with 25, has a benefit that falls. With the weights
+    the other way round some have, so that this check can fail. How many it looked at."""
     kept = [case for case in cases if refusal(*case) in (0, 25)]
     for case in filter(falls, kept):
         differ(case, 'the benefit falls', 'by rule 7.9 none does')
@@ -442,7 +442,8 @@ def check():
     refused = commands.numbers_of(line for _, line, _ in said)
     if set(of_plan) != OF_PLAN or set(refused) != REFUSALS:
         sys.exit(f'member_figures: the plans give the refusals {sorted(of_plan)}, the members {sorted(refused)}')
-    report(len(cases), of_plan, refused, check_rising(cases), farthest)
+    rising = check_rising(cases)
+    report(len(cases), of_plan, refused, rising, farthest)
 
 
 def report(count, of_plan, refused, rising, farthest):

@@ -13,7 +13,7 @@ use Rattle.plan.specs.declared.Plan.{Plan}
 use Rattle.plan.specs.declared.Member.{Member}
 use Rattle.plan.specs.declared.Formula.{Formula}
 use Rattle.plan.specs.declared.Formula.the-variants.{Flat, Career, Final}
-use Rattle.plan.specs.Weights.{summed, firstPaid, paidWeights}
+use Rattle.plan.specs.Weights.{summed, firstPaid}
 use Rattle.plan.specs.Benefit.{formulaOf}
 use Rattle.plan.specs.Acceptance.{planRefusal, Placed, Sums}
 use Rattle.plan.proofs.WeightLaws.{summed-from, summed-most}
@@ -70,23 +70,21 @@ first-paid-among Flat average entry k le = (le, le-refl k)
 first-paid-among Career average entry k le = (le-refl entry, le)
 first-paid-among Final average entry k le = (omega (arith, min-le-right average (k - entry)), omega arith)
 
+-- by career they are all ages from entry on
+pub all-paid : {f : Formula} (average entry k : ℕ) {first : ℕ} → f ≡ Career → first ≡ firstPaid f average entry k → first ≡ entry
+unfolding firstPaid
+all-paid average entry k e first = rw e at first
+
+-- and by final the last ones
+pub last-paid : {f : Formula} (average entry k : ℕ) {first : ℕ} → f ≡ Final → first ≡ firstPaid f average entry k → k - first ≡ min average (k - entry)
+unfolding firstPaid
+last-paid average entry k e first = omega (arith, rw e at first, min-le-right average (k - entry))
+
 -- they lie in the table
 pub record PaidAges (first k : ℕ) : Type 0 where
   pub low : 15 ≤ first
   pub le : first ≤ k
   pub high : k ≤ 120
-
-module _ (p : Plan) (rows : List (List ℕ)) (m : Member) (k : ℕ) where
-  pub paid-career : formulaOf (p .formula) ≡ Career → paidWeights p rows m k ≡ summed (weight rows) (m .entry) (k - m .entry)
-  unfolding paidWeights firstPaid
-  paid-career e = rw e
-
-  pub paid-final : formulaOf (p .formula) ≡ Final → let n = min (p .average) (k - m .entry) in paidWeights p rows m k ≡ summed (weight rows) (k - n) n
-  unfolding paidWeights firstPaid
-  paid-final e =
-      let n = min (p .average) (k - m .entry) in
-      let ages : k - (k - n) ≡ n = omega (arith, min-le-right (p .average) (k - m .entry)) in
-      rw (e, ages)
 
 -- ---- of an accepted plan
 module _ (p : Plan) (rows : List (List ℕ)) (accepted : planRefusal p rows ≡ 0) where

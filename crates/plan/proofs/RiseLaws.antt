@@ -22,6 +22,7 @@ use Rattle.plan.specs.Rising.{Rising, Climbing, Never-Falls, Accepted-Ne
 use Rattle.plan.proofs.WeightLaws.{summed-more, summed-climbs}
 use Rattle.plan.proofs.BenefitLaws.{final-code, none-at-entry, flat-benefit, career-benefit, final-benefit}
 use Rattle.plan.proofs.Facts.{HeadFacts, head-facts, plan-facts}
+use Rattle.plan.proofs.BenefitNeeds.{weight-some}
 
 module _ (p : Plan) (rows : List (List ℕ)) (m : Member) (head : HeadFacts p) (weights : Climbing rows) (placed : Placed p m) where
   open Plan p using (unit, average, retire)
@@ -106,5 +107,5 @@ never-falls p rows m kept weights placed = rising p rows m (head-facts p kept) w
 pub accepted-never-falls : Accepted-Never-Falls
 accepted-never-falls p rows m accepted placed =
     let facts = plan-facts p rows accepted in
-    let weights : Climbing rows = record { above = λ k low high. omega (arith, facts .least k low high); climbs = facts .climbs } in
+    let weights : Climbing rows = record { above = weight-some p rows accepted; climbs = facts .climbs } in
     rising p rows m (facts .head) weights placed

@@ -1,5 +1,5 @@
 -- Accepting a plan, its rows and a member handed in as plain values: rule 5.3, the range rules in the order of the lines. Cents for money, millionths for rates.
-use mathlib.Core.Bool.{Bool, true, cond, _&&_}
+use mathlib.Core.Bool.{true, cond, _&&_}
 use mathlib.Core.List.{List, [], _∷_, _++_}
 use Prim.Native.Nat.{ℕ, zero, suc, _+_, _-_, _≤_, _<_}
 use mathlib.Core.Path.{_≡_}

@@ -1,5 +1,5 @@
 pub mod Rules
-pub mod Benefit
 pub mod Weights
+pub mod Benefit
 pub mod Acceptance
 pub mod Rising

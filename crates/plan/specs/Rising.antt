@@ -9,7 +9,7 @@ use Rattle.plan.specs.Rules.{firstOf}
 use Rattle.plan.specs.Benefit.{B}
 use Rattle.plan.specs.Acceptance.{headRules, planRefusal, Placed}
 
--- B(k) ≤ B(k+1), at each age k from y to r − 1
+-- rule 7.9: B(k) ≤ B(k+1), for each age k from y to r − 1
 abbrev pub Rising : Plan → List (List ℕ) → Member → Type 0
 Rising p rows m = (k : ℕ) → m .entry ≤ k → k < p .retire → B p rows m k ≤ B p rows m (k + 1)
 
@@ -18,12 +18,12 @@ pub record Climbing (rows : List (List ℕ)) : Type 0 where
   pub above : (k : ℕ) → 15 ≤ k → k ≤ 120 → 0 < weight rows k
   pub climbs : (k : ℕ) → 15 ≤ k → k < 120 → weight rows k ≤ weight rows (k + 1)
 
--- by each of the three formulas, where the weights never fall; interest, rates and id play no part
+-- by each of the three formulas: under a heading that rules 2.2 to 2.9 keep, and of the table by its weights alone
 abbrev pub Never-Falls : Type 0
 Never-Falls =
     (p : Plan) (rows : List (List ℕ)) (m : Member) → firstOf (headRules p) ≡ 0 → Climbing rows → Placed p m → Rising p rows m
 
--- so of every accepted plan and every member that rules 4.3 to 4.5 keep
+-- so of every accepted plan, and every member that rules 4.3 to 4.5 keep
 abbrev pub Accepted-Never-Falls : Type 0
 Accepted-Never-Falls =
     (p : Plan) (rows : List (List ℕ)) (m : Member) → planRefusal p rows ≡ 0 → Placed p m → Rising p rows m

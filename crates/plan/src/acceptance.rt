@@ -120,7 +120,7 @@ pub fn accept_plan(p: Plan, rows: [[u32; 4]; 106]) -> Acceptance
     answer_of(plan_refusal(p, rows))
 }
 
-// A lone member of a plan, after the plan.
+// Rules 5.3 and 5.5: a lone member, after its plan.
 pub fn lone_refusal(p: Plan, rows: [[u32; 4]; 106], m: Member) -> u64
     ensures { λ r. ⌜ r ≡ loneRefusal p rows m ⌝ }
 {

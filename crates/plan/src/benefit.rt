@@ -8,7 +8,7 @@ ghost use Prim.Native.Nat.{_-_, _*_, _≤_, _<_, min};
 ghost use lib.ListN.{getD};
 ghost use Rattle.rounding.specs.Nearest.{nearest};
 ghost use Rattle.annuity.specs.Basis.{Table, weight};
-ghost use Rattle.plan.specs.Weights.{summed, firstPaid, paidWeights};
+ghost use Rattle.plan.specs.Weights.{summed, firstPaid};
 ghost use Rattle.plan.specs.Benefit.{formulaOf, B};
 ghost use Rattle.plan.specs.Acceptance.{planRefusal, Placed, Accrued, Sums};
 
@@ -63,14 +63,14 @@ fn final_average(unit: u64, years: u64, salary: u64, weights: u64, n: u64, now: 
 }
 
 // The weights of the ages from a to b - 1, from the sums.
-fn weights(sums: &[u64; 106], a: u64, b: u64) -> u64
+fn sum_between(sums: &[u64; 106], a: u64, b: u64) -> u64
     requires { ⌜ (15 ≤ a) × (a ≤ 120) × (15 ≤ b) × (b ≤ 120) × (getD (now sums) (a - 15) 0 ≤ getD (now sums) (b - 15) 0) ⌝ }
     ensures { λ r. ⌜ r ≡ getD (now (sums .entry)) (b - 15) 0 - getD (now (sums .entry)) (a - 15) 0 ⌝ }
 {
     sums[b as usize - 15] - sums[a as usize - 15]
 }
 
-// The weights of the ages from a to b - 1, added up: for one sum alone.
+// The weights of the ages from a to b - 1, added up where they stand.
 pub fn weights_between(rows: &[[u32; 4]; 106], a: u64, b: u64) -> u64
     requires { ⌜ Table (now rows) × (15 ≤ a) × (a ≤ b) × (b ≤ 120) ⌝ }
     ensures { λ r. ⌜ r ≡ summed (weight (now (rows .entry))) a (b - a) ⌝ }
@@ -85,22 +85,22 @@ pub fn weights_between(rows: &[[u32; 4]; 106], a: u64, b: u64) -> u64
     sum
 }
 
-// The first of the ages whose pay B(k) rests on.
-fn first_paid(p: Plan, entry: u64, k: u64) -> u64
+// The first of the ages whose pay B(k) rests on: by flat k itself, since it rests on none.
+fn first_paid(formula: Formula, average: u64, entry: u64, k: u64) -> u64
     requires { ⌜ entry ≤ k ⌝ }
-    ensures { λ a. ⌜ a ≡ firstPaid (formulaOf (p .formula)) (p .average) entry k ⌝ }
+    ensures { λ a. ⌜ a ≡ firstPaid formula average entry k ⌝ }
 {
-    let formula = formula_of(p.formula);
     match formula {
         Formula::Flat => k,
         Formula::Career => entry,
-        Formula::Final => k - least(p.average, k - entry),
+        Formula::Final => k - least(average, k - entry),
     }
 }
 
-// Rules 7.3 to 7.7, B(k): what has accrued by age k, from the summed weights of the ages whose pay it rests on.
-fn benefit(p: Plan, rows: &[[u32; 4]; 106], m: Member, k: u64, weights: u64) -> u64
-    requires { ⌜ (planRefusal p (now rows) ≡ 0) × Placed p m × (m .entry ≤ k) × (k ≤ p .retire) × (weights ≡ paidWeights p (now rows) m k) ⌝ }
+// Rules 7.3 to 7.7, B(k): what has accrued by age k. The ages whose pay it rests on go from `first` to k - 1, and `weights`
+// is the sum of theirs.
+fn benefit(p: Plan, rows: &[[u32; 4]; 106], m: Member, k: u64, first: u64, weights: u64) -> u64
+    requires { ⌜ (planRefusal p (now rows) ≡ 0) × Placed p m × (m .entry ≤ k) × (k ≤ p .retire) × (first ≡ firstPaid (formulaOf (p .formula)) (p .average) (m .entry) k) × (weights ≡ summed (weight (now rows)) first (k - first)) ⌝ }
     ensures { λ r. ⌜ r ≡ B p (now (rows .entry)) m k ⌝ }
 {
     let entry = m.entry;
@@ -114,26 +114,24 @@ fn benefit(p: Plan, rows: &[[u32; 4]; 106], m: Member, k: u64, weights: u64) -> 
     match formula {
         Formula::Flat => p.unit * years,
         Formula::Career => career(p.unit, m.salary, weights, now),
-        Formula::Final => {
-            final_average(
-                p.unit,
-                years,
-                m.salary,
-                weights,
-                least(p.average, years),
-                now,
-            )
-        }
+        Formula::Final => final_average(p.unit, years, m.salary, weights, k - first, now),
     }
 }
 
 // B(r) alone.
-pub fn retirement_benefit(p: Plan, rows: &[[u32; 4]; 106], m: Member) -> u64
+pub(crate) fn retirement_benefit(p: Plan, rows: &[[u32; 4]; 106], m: Member) -> u64
     requires { ⌜ (planRefusal p (now rows) ≡ 0) × Placed p m ⌝ }
     ensures { λ r. ⌜ r ≡ B p (now (rows .entry)) m (p .retire) ⌝ }
 {
-    let first = first_paid(p, m.entry, p.retire);
-    benefit(p, rows, m, p.retire, weights_between(rows, first, p.retire))
+    let first = first_paid(formula_of(p.formula), p.average, m.entry, p.retire);
+    benefit(
+        p,
+        rows,
+        m,
+        p.retire,
+        first,
+        weights_between(rows, first, p.retire),
+    )
 }
 
 // B(k) for each age from entry to retirement.
@@ -142,12 +140,13 @@ pub fn accrued_benefits(p: Plan, rows: [[u32; 4]; 106], m: Member) -> [u64; 106]
     ensures { λ a. ⌜ Accrued p rows m a ⌝ }
 {
     let sums = summed_weights(rows);
+    let formula = formula_of(p.formula);
     let retire = p.retire;
     let mut benefits = [0u64; 106];
     let mut k = m.entry;
     while k <= retire {
-        let first = first_paid(p, m.entry, k);
-        benefits[k as usize - 15] = benefit(p, &rows, m, k, weights(&sums, first, k));
+        let first = first_paid(formula, p.average, m.entry, k);
+        benefits[k as usize - 15] = benefit(p, &rows, m, k, first, sum_between(&sums, first, k));
         k += 1;
     }
     benefits

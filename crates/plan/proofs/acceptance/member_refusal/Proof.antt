@@ -1,5 +1,5 @@
 -- `plan::acceptance::member_refusal` meets its contract.
-use mathlib.Core.Path.{_≡_, refl, sym, ap, _∙_}
+use mathlib.Core.Path.{refl, sym, ap, _∙_}
 use Prim.Native.Nat.{ℕ}
 use lib.Dec.{leb}
 use Rattle.plan.specs.Rules.{unless}

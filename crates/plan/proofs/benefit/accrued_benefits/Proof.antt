@@ -1,11 +1,12 @@
 -- `plan::benefit::accrued_benefits` meets its contract.
 use mathlib.Core.Path.{_≡_, refl, ap, _∙_}
-use Prim.Native.Nat.{ℕ, _+_, _-_, _≤_}
+use Prim.Native.Nat.{_+_, _-_, _≤_}
 use native.Mathlib.Nat.{le-refl}
 use native.Mathlib.Omega.{arith}
-use Rattle.annuity.specs.Basis.{weight}
-use Rattle.plan.specs.Weights.{summed, paidWeights}
-use Rattle.plan.specs.Benefit.{B}
+use borrow.Author.Needs.{needs}
+use Rattle.plan.specs.declared.Formula.{Formula}
+use Rattle.plan.specs.Weights.{firstPaid}
+use Rattle.plan.specs.Benefit.{formulaOf, B}
 use Rattle.plan.proofs.Upward.{Upto, upto-more}
 use Rattle.plan.proofs.Facts.{plan-facts}
 use Rattle.plan.proofs.BenefitNeeds.{sums-rise, sums-differ, PaidAges, paid-ages}
@@ -13,57 +14,59 @@ use Rattle.plan.proofs.benefit.accrued_benefits.Statement.{statement}
 use Rattle.plan.proofs.benefit.accrued_benefits.Tie as tie
 
 abbrev Inv-loop : tie.InvT-loop
-Inv-loop p m rows sums retire benefits₀ k₀ benefits k =
+Inv-loop p m rows sums formula retire benefits₀ k₀ benefits k =
     (retire ≡ p .retire) × (m .entry ≤ k) × (k ≤ p .retire + 1) × Upto (B p rows m) (m .entry) k benefits
 
 abbrev μ-loop : tie.MeasureT-loop
-μ-loop p m rows sums retire benefits₀ k₀ benefits k = p .retire + 1 - k
+μ-loop p m rows sums formula retire benefits₀ k₀ benefits k = p .retire + 1 - k
 
 summed-weights-requires : tie.Need-summed-weights-requires Inv-loop μ-loop
 summed-weights-requires c κs = plan-facts (c .args .p) (c .args .t2) (c .pre .0) .table
 
+formula-of-requires : tie.Need-formula-of-requires Inv-loop μ-loop
+formula-of-requires c κs = search needs
+
 loop-holds : tie.Need-loop-holds Inv-loop μ-loop
 loop-holds c =
-    let s = c .before in
+    let s = c .before .before in
     (refl, le-refl (s .args .m .entry), omega (arith, s .pre .1 .enters), record { size = refl; each = λ k from to. absurd (omega arith) })
 
 first-paid-requires : tie.Need-first-paid-requires Inv-loop μ-loop
 first-paid-requires c κs = c .before .loop .inv .1
 
+-- the first age whose pay counts, by the definition, and where it lies
+first : (c : tie.After-first-paid Inv-loop μ-loop) → let a = c .before .before .before .before .before .args in c .first-paid .result ≡ firstPaid (formulaOf (a .p .formula)) (a .p .average) (a .m .entry) (c .before .before .loop .k)
+first c = let a = c .before .before .before .before .before .args in c .first-paid .ensures ∙ ap (λ (f : Formula). firstPaid f (a .p .average) (a .m .entry) (c .before .before .loop .k)) (c .before .before .before .formula-of .ensures)
+
 ages : (c : tie.After-first-paid Inv-loop μ-loop) → PaidAges (c .first-paid .result) (c .before .before .loop .k)
 ages c =
-    let s = c .before .before .before .before in
+    let s = c .before .before .before .before .before in
     let l = c .before .before .loop in
-    paid-ages (s .args .p) (s .args .t2) (s .pre .0) (s .args .m) (s .pre .1) (l .k) (l .inv .1) (omega (arith, c .before .loop-test .taken, l .inv .0)) (c .first-paid .ensures)
+    paid-ages (s .args .p) (s .args .t2) (s .pre .0) (s .args .m) (s .pre .1) (l .k) (l .inv .1) (omega (arith, c .before .loop-test .taken, l .inv .0)) (first c)
 
-weights-requires : tie.Need-weights-requires Inv-loop μ-loop
-weights-requires c κs =
-    let s = c .before .before .before .before .before .before in
+sum-between-requires : tie.Need-sum-between-requires Inv-loop μ-loop
+sum-between-requires c κs =
     let at = ages (c .before .before) in
-    let first = c .before .before .first-paid .result in
-    let k = c .before .before .before .before .loop .k in
-    (at .low, omega (arith, at .le, at .high), omega (arith, at .low, at .le), at .high, sums-rise (s .args .t2) first k (at .low) (at .le) (at .high) (c .before .before .before .before .before .summed-weights .result) (c .before .before .before .before .before .summed-weights .ensures))
+    let sums = c .before .before .before .before .before .before .summed-weights in
+    (at .low, omega (arith, at .le, at .high), omega (arith, at .low, at .le), at .high, sums-rise (c .before .before .before .before .before .before .before .args .t2) (c .before .before .first-paid .result) (c .before .before .before .before .loop .k) (at .low) (at .le) (at .high) (sums .result) (sums .ensures))
 
 benefit-requires : tie.Need-benefit-requires Inv-loop μ-loop
-unfolding paidWeights
 benefit-requires c κs =
-    let s = c .before .before .before .before .before .before .before in
+    let s = c .before .before .before .before .before .before .before .before in
     let l = c .before .before .before .before .before .loop in
-    let first = c .before .before .before .first-paid in
     let at = ages (c .before .before .before) in
-    let sums = c .before .before .before .before .before .before .summed-weights in
-    let W = weight (s .args .t2) in
-    let total = c .weights .ensures ∙ sums-differ (s .args .t2) (first .result) (l .k) (at .low) (at .le) (at .high) (sums .result) (sums .ensures) in
-    (s .pre .0, s .pre .1, l .inv .1, omega (arith, l .inv .0), total ∙ ap (λ (a : ℕ). summed W a (l .k - a)) (first .ensures))
+    let sums = c .before .before .before .before .before .before .before .summed-weights in
+    let total = c .sum-between .ensures ∙ sums-differ (s .args .t2) (c .before .before .before .first-paid .result) (l .k) (at .low) (at .le) (at .high) (sums .result) (sums .ensures) in
+    (s .pre .0, s .pre .1, l .inv .1, omega (arith, l .inv .0), first (c .before .before .before), total)
 
 sub-benefits : tie.Need-sub-benefits Inv-loop μ-loop
-sub-benefits c = omega (arith, c .before .before .before .before .before .before .before .before .pre .1 .grown, c .before .before .before .before .before .before .loop .inv .1)
+sub-benefits c = omega (arith, c .before .before .before .before .before .before .before .before .before .pre .1 .grown, c .before .before .before .before .before .before .loop .inv .1)
 
 mul-benefits : tie.Need-mul-benefits Inv-loop μ-loop
 mul-benefits c = omega (arith, ages (c .before .before .before .before) .high)
 
 array-write-benefits : tie.Need-array-write-benefits Inv-loop μ-loop
-array-write-benefits c = let l = c .before .before .before .before .before .before .loop in omega (arith, c .before .before .before .before .before .before .before .before .pre .1 .grown, l .inv .1, l .inv .3 .size, ages (c .before .before .before .before) .high)
+array-write-benefits c = let l = c .before .before .before .before .before .before .loop in omega (arith, c .before .before .before .before .before .before .before .before .before .pre .1 .grown, l .inv .1, l .inv .3 .size, ages (c .before .before .before .before) .high)
 
 add-k : tie.Need-add-k Inv-loop μ-loop
 add-k c = omega (arith, ages (c .before .before .before .before) .high)
@@ -73,7 +76,7 @@ loop-less c = omega (arith, c .before .before .before .before .before .before .l
 
 loop-again : tie.Need-loop-again Inv-loop μ-loop
 loop-again c =
-    let s = c .before .before .before .before .before .before .before .before in
+    let s = c .before .before .before .before .before .before .before .before .before in
     let l = c .before .before .before .before .before .before .loop in
     (l .inv .0, omega arith, omega (arith, l .inv .0), upto-more (B (s .args .p) (s .args .t2) (s .args .m)) (s .args .m .entry) (l .k) (c .benefit .result) (s .pre .1 .grown) (l .inv .1) (ages (c .before .before .before .before) .high) (c .benefit .ensures) (l .inv .3))
 
@@ -89,9 +92,10 @@ accrued-benefits-spec =
     Inv-loop
     μ-loop
     summed-weights-requires
+    formula-of-requires
     loop-holds
     first-paid-requires
-    weights-requires
+    sum-between-requires
     benefit-requires
     sub-benefits
     mul-benefits

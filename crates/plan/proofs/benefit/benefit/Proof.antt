@@ -1,14 +1,14 @@
 -- `plan::benefit::benefit` meets its contract.
-use mathlib.Core.Path.{sym, _∙_}
-use Prim.Native.Nat.{_-_, _*_, min}
+use mathlib.Core.Path.{_≡_, sym, ap, _∙_}
+use Prim.Native.Nat.{ℕ, _-_, _*_}
 use native.Mathlib.Nat.{mul-le-mul}
 use native.Mathlib.Omega.{arith}
 use Rattle.rounding.specs.Nearest.{nearest}
 use Rattle.annuity.specs.Basis.{weight}
-use Rattle.plan.proofs.WeightLaws.{summed-most}
+use Rattle.plan.specs.Weights.{summed}
 use Rattle.plan.proofs.Facts.{plan-facts}
 use Rattle.plan.proofs.BenefitLaws.{not-flat, flat-career, flat-final, final-code, none-at-entry, flat-benefit, career-benefit, final-benefit}
-use Rattle.plan.proofs.BenefitNeeds.{weights-most, paid-career, paid-final, age-low, age-high, now-some, now-most, years-most, last-ages}
+use Rattle.plan.proofs.BenefitNeeds.{weights-most, all-paid, last-paid, paid-ages, age-low, age-high, now-some, now-most, years-most, last-ages}
 use borrow.Author.Needs.{needs}
 use Rattle.plan.proofs.benefit.benefit.Statement.{statement}
 use Rattle.plan.proofs.benefit.benefit.Tie as tie
@@ -64,12 +64,13 @@ career-requires c κs =
     let a = s .args in
     let facts = plan-facts (a .p) (a .rows .now) (s .pre .0) in
     let e = sym (c .before .before .formula-of .ensures) ∙ c .enum-told2 .given .1 in
-    let years = years-most (a .p) (a .rows .now) (s .pre .0) (a .m) (s .pre .1) (a .k) (s .pre .3) in
-    let most = weights-most (a .rows .now) (a .m .entry) (a .k) (s .pre .1 .grown) (s .pre .2) (omega (arith, s .pre .3, facts .head .retire .1)) (facts .table) in
+    let first = all-paid (a .p .average) (a .m .entry) (a .k) e (s .pre .4) in
+    let ages = paid-ages (a .p) (a .rows .now) (s .pre .0) (a .m) (s .pre .1) (a .k) (s .pre .2) (s .pre .3) (s .pre .4) in
+    let most = weights-most (a .rows .now) (a .first) (a .k) (ages .low) (ages .le) (ages .high) (facts .table) in
     let scale = c .before .before .before .wide .ensures .0 in (
       facts .head .pay-unit (not-flat (a .p .formula) e flat-career),
       s .pre .1 .paid,
-      omega (arith, s .pre .4, paid-career (a .p) (a .rows .now) (a .m) (a .k) e, most, years),
+      omega (arith, s .pre .5, most, ages .low, ages .high),
       rw scale (now-some (a .p) (a .rows .now) (s .pre .0) (a .m) (s .pre .1)),
       rw scale (now-most (a .p) (a .rows .now) (s .pre .0) (a .m) (s .pre .1)),
     )
@@ -77,26 +78,30 @@ career-requires c κs =
 enum-told-3 : tie.Need-enum-told-3
 enum-told-3 c = search needs
 
-least-requires : tie.Need-least-requires
-least-requires c κs = search needs
+sub-final-average : tie.Need-sub-final-average
+sub-final-average c =
+    let s = c .before .before .before .before .before .before in
+    let a = s .args in
+    paid-ages (a .p) (a .rows .now) (s .pre .0) (a .m) (s .pre .1) (a .k) (s .pre .2) (s .pre .3) (s .pre .4) .le
 
 final-average-requires : tie.Need-final-average-requires
 final-average-requires c κs =
-    let s = c .before .before .before .before .before .before .before in
+    let s = c .before .before .before .before .before .before in
     let a = s .args in
     let facts = plan-facts (a .p) (a .rows .now) (s .pre .0) in
-    let e = sym (c .before .before .before .formula-of .ensures) ∙ c .before .enum-told3 .given .1 in
+    let e = sym (c .before .before .formula-of .ensures) ∙ c .enum-told3 .given .1 in
     let average = facts .head .average (final-code (a .p .formula) (facts .head .formula .0) (facts .head .formula .1) e) in
-    let n = min (a .p .average) (a .k - a .m .entry) in
-    let n-is = last-ages (a .p .average) (a .k - a .m .entry) (average .0) (average .1) (omega arith) in
-    let most = summed-most (weight (a .rows .now)) 100000 (a .k - n) n (λ j from to. facts .table .weights j (omega (arith, s .pre .1 .grown, n-is .most-years)) (omega (arith, s .pre .3, facts .head .retire .1, n-is .most-years))) in
-    let scale = c .before .before .before .before .wide .ensures .0 in (
+    let n-is = last-ages (a .p .average) (a .k - a .m .entry) (average .0) (average .1) (omega (arith, c .before .before .before .before .before .if1 .left)) in
+    let n = last-paid (a .p .average) (a .m .entry) (a .k) e (s .pre .4) in
+    let ages = paid-ages (a .p) (a .rows .now) (s .pre .0) (a .m) (s .pre .1) (a .k) (s .pre .2) (s .pre .3) (s .pre .4) in
+    let most = weights-most (a .rows .now) (a .first) (a .k) (ages .low) (ages .le) (ages .high) (facts .table) in
+    let scale = c .before .before .before .wide .ensures .0 in (
       facts .head .pay-unit (not-flat (a .p .formula) e flat-final),
       years-most (a .p) (a .rows .now) (s .pre .0) (a .m) (s .pre .1) (a .k) (s .pre .3),
       s .pre .1 .paid,
-      omega (arith, s .pre .4, paid-final (a .p) (a .rows .now) (a .m) (a .k) e, most, n-is .most),
-      rw (c .least .ensures) (n-is .some),
-      rw (c .least .ensures) (n-is .most),
+      omega (arith, s .pre .5, most, n, n-is .most),
+      rw n (n-is .some),
+      rw n (n-is .most),
       rw scale (now-some (a .p) (a .rows .now) (s .pre .0) (a .m) (s .pre .1)),
       rw scale (now-most (a .p) (a .rows .now) (s .pre .0) (a .m) (s .pre .1)),
     )
@@ -112,23 +117,27 @@ returns-3 c =
     let s = c .before .before .before .before .before .before .before in
     let a = s .args in
     let e = sym (c .before .before .before .formula-of .ensures) ∙ c .before .enum-told2 .given .1 in
-    let total = s .pre .4 ∙ paid-career (a .p) (a .rows .now) (a .m) (a .k) e in
+    let total = s .pre .5 ∙ ap (λ (x : ℕ). summed (weight (a .rows .now)) x (a .k - x)) (all-paid (a .p .average) (a .m .entry) (a .k) e (s .pre .4)) in
     c .career .ensures
     ∙ (λ i. nearest (a .p .unit * (a .m .salary * total i)) (10000 * c .before .before .before .before .wide .ensures .0 i))
     ∙ sym (career-benefit (a .p) (a .rows .now) (a .m) (now-some (a .p) (a .rows .now) (s .pre .0) (a .m) (s .pre .1)) (a .k) (c .before .before .before .before .before .before .if1 .left) e)
 
 returns-4 : tie.Need-returns-4
 returns-4 c =
-    let s = c .before .before .before .before .before .before .before .before in
+    let s = c .before .before .before .before .before .before .before in
     let a = s .args in
     let facts = plan-facts (a .p) (a .rows .now) (s .pre .0) .head in
-    let e = sym (c .before .before .before .before .formula-of .ensures) ∙ c .before .before .enum-told3 .given .1 in
+    let e = sym (c .before .before .before .formula-of .ensures) ∙ c .before .enum-told3 .given .1 in
     let average = facts .average (final-code (a .p .formula) (facts .formula .0) (facts .formula .1) e) in
-    let n-is = last-ages (a .p .average) (a .k - a .m .entry) (average .0) (average .1) (omega arith) in
-    let total = s .pre .4 ∙ paid-final (a .p) (a .rows .now) (a .m) (a .k) e in
+    let n-is = last-ages (a .p .average) (a .k - a .m .entry) (average .0) (average .1) (omega (arith, c .before .before .before .before .before .before .if1 .left)) in
+    let n = last-paid (a .p .average) (a .m .entry) (a .k) e (s .pre .4) in
+    let first : a .first ≡ a .k - (a .k - a .first) = omega (arith, paid-ages (a .p) (a .rows .now) (s .pre .0) (a .m) (s .pre .1) (a .k) (s .pre .2) (s .pre .3) (s .pre .4) .le) in
+    let W = weight (a .rows .now) in
+    let total = s .pre .5 ∙ ap (λ (x : ℕ). summed W x (a .k - a .first)) first in
     c .final-average .ensures
-    ∙ (λ i. nearest (a .p .unit * (a .k - a .m .entry) * (a .m .salary * total i)) (10000 * (c .before .least .ensures i * c .before .before .before .before .before .wide .ensures .0 i)))
-    ∙ sym (final-benefit (a .p) (a .rows .now) (a .m) (now-some (a .p) (a .rows .now) (s .pre .0) (a .m) (s .pre .1)) (a .k) (c .before .before .before .before .before .before .before .if1 .left) e (n-is .some))
+    ∙ (λ i. nearest (a .p .unit * (a .k - a .m .entry) * (a .m .salary * total i)) (10000 * ((a .k - a .first) * c .before .before .before .before .wide .ensures .0 i)))
+    ∙ ap (λ (n : ℕ). nearest (a .p .unit * (a .k - a .m .entry) * (a .m .salary * summed W (a .k - n) n)) (10000 * (n * W (a .m .age)))) n
+    ∙ sym (final-benefit (a .p) (a .rows .now) (a .m) (now-some (a .p) (a .rows .now) (s .pre .0) (a .m) (s .pre .1)) (a .k) (c .before .before .before .before .before .before .if1 .left) e (n-is .some))
 
 pub benefit-spec : {M : Type 1} → statement M
 benefit-spec =
@@ -147,7 +156,7 @@ benefit-spec =
     enum-told-2
     career-requires
     enum-told-3
-    least-requires
+    sub-final-average
     final-average-requires
     returns-2
     returns-3
