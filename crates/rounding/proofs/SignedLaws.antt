@@ -4,7 +4,7 @@ use mathlib.Core.Bool.{Bool, true, false, cond}
 use Prim.Native.Nat.{ℕ, zero, suc, _*_, _<_}
 use native.Mathlib.Nat.{zero-mul}
 use native.Mathlib.Omega.{arith}
-use lib.IntN.{ℤ, pos, negℤ, _*ℤ_}
+use lib.IntN.{ℤ, pos, negsuc, negℤ, _*ℤ_}
 use Rattle.rounding.specs.declared.Signed.{Signed}
 use Rattle.rounding.specs.Nearest.{nearest, nearestℤ}
 use Rattle.rounding.specs.Signed.{integer, signed}
@@ -47,3 +47,32 @@ signed-zero a b d h e = sym (ap signed (by-size a b d h ∙ ap (with-sign (a .ne
 pub signed-other : (a : Signed) (b d q : ℕ) → 0 < d → q ≡ nearest (a .size * b) d → 0 < q → record { negative = a .negative; size = q } ≡ signed (nearestℤ (integer a *ℤ pos b) d)
 signed-other a b d q h e some =
     sym (ap signed (by-size a b d h ∙ ap (with-sign (a .negative)) (sym e)) ∙ other-kept (a .negative) q some)
+
+-- the integer of a sign and a size that were made from one is that one
+signed-back : (z : ℤ) → integer (signed z) ≡ z
+unfolding integer signed
+signed-back (pos n) = refl
+signed-back (negsuc n) = refl
+
+size-kept : (negative : Bool) (q : ℕ) → signed (with-sign negative q) .size ≡ q
+unfolding signed
+size-kept false q = refl
+size-kept true zero = refl
+size-kept true (suc q) = refl
+
+module _ (a : Signed) (b d : ℕ) (r : Signed) (h : 0 < d) (e : r ≡ signed (nearestℤ (integer a *ℤ pos b) d)) where
+  -- the result's size is the rounded size
+  pub signed-size : r .size ≡ nearest (a .size * b) d
+  signed-size =
+      ap (λ (s : Signed). s .size) e
+      ∙ ap (λ (z : ℤ). signed z .size) (by-size a b d h)
+      ∙ size-kept (a .negative) (nearest (a .size * b) d)
+
+  -- and its sign is that of a
+  pub signed-sign : integer r ≡ integer (record { negative = a .negative; size = r .size })
+  unfolding integer
+  signed-sign =
+      ap integer e
+      ∙ signed-back (nearestℤ (integer a *ℤ pos b) d)
+      ∙ by-size a b d h
+      ∙ ap (with-sign (a .negative)) (sym signed-size)

@@ -1,11 +1,11 @@
--- What a division's two results are, stated as a pair.
+-- What a division's two results are, stated as a pair: rule 6.4.
 use mathlib.Core.Path.{_≡_}
 use Prim.Native.Nat.{ℕ, _+_, _*_, _^_, _≤_, _<_}
 use Rattle.rounding.specs.declared.division.Division.{Division}
 use Rattle.rounding.specs.declared.division.Taken.{Taken}
 use Rattle.rounding.specs.Words.{value}
 
--- s divides n by d: d as often as the quotient says, and the remainder, make up n, and the remainder is less than d
+-- rule 6.4, s divides n by d: d as often as the quotient says, and the remainder, make up n, and the remainder is less than d
 pub record DivisionOf (n d : ℕ) (s : Division) : Type 0 where
   pub same : s .quotient * d + s .remainder ≡ n
   pub less : s .remainder < d

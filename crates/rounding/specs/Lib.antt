@@ -2,3 +2,4 @@ pub mod Nearest
 pub mod Words
 pub mod Division
 pub mod Signed
+pub mod OneDivision

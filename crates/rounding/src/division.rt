@@ -1,4 +1,4 @@
-// One long division of two words by one, which gives the quotient and the remainder together.
+// One long division of two words by one, which gives the quotient and the remainder together: rule 6.4.
 use crate::words;
 use words::Wide;
 ghost use mathlib.Core.Path.{_≡_};
@@ -33,14 +33,16 @@ pub fn divide(w: Wide, d: u64) -> Division
     by_reciprocal(w, d)
 }
 
-// One word by one.
+// One word by one. The remainder comes from a product, and not from a second division.
 pub(crate) fn by_word(n: u64, d: u64) -> Division
     requires { ⌜ 0 < d ⌝ }
     ensures { λ s. ⌜ DivisionOf n d s ⌝ }
 {
+    let quotient = n / d;
+    let remainder = n - quotient * d;
     Division {
-        quotient: n / d,
-        remainder: n % d,
+        quotient,
+        remainder,
     }
 }
 

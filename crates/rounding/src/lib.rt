@@ -1,8 +1,9 @@
 // Rounding, RULES section 6: the nearest whole, halfway up, and below 0 by the size (rules 6.1 and 6.2); of a product
 // of any width once, after its division (rule 6.3).
 // words.rt has products in two words, division.rt one long division that gives quotient and remainder, and this file
-// the rounded quotients that every figure is made with. The rule itself is `nearest`, in specs/Nearest.antt; callers
-// rest on its laws, in proofs/NearestLaws.antt, and not on its text. Each `requires` is what a caller must show.
+// the rounded quotients that every figure is made with, each from one such pair (rule 6.4, stated in
+// specs/OneDivision.antt). The rule itself is `nearest`, in specs/Nearest.antt; callers rest on its laws, in
+// proofs/NearestLaws.antt, and not on its text. Each `requires` is what a caller must show.
 pub mod division;
 pub mod words;
 
@@ -15,8 +16,8 @@ ghost use Rattle.rounding.specs.Nearest.{nearest, nearestℤ};
 ghost use Rattle.rounding.specs.Signed.{integer, signed};
 ghost use Rattle.rounding.specs.Words.{value};
 
-// The nearest whole to a division's exact quotient. The remainder is held against what it lacks to the divisor, so
-// that nothing is doubled.
+// The nearest whole to a division's exact quotient, from its pair and without dividing (rule 6.4). The remainder is held
+// against what it lacks to the divisor, so that nothing is doubled.
 fn half_up(s: Division, d: u64) -> u64
     requires { ⌜ (s .remainder < d) × (nearest (s .quotient * d + s .remainder) d < 2 ^ 64) ⌝ }
     ensures { λ r. ⌜ r ≡ nearest (s .quotient * d + s .remainder) d ⌝ }

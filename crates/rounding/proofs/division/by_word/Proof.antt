@@ -1,17 +1,24 @@
 -- `rounding::division::by_word` meets its contract.
 use borrow.Author.Needs.{needs}
+use native.Mathlib.Omega.{arith}
 use native.Mathlib.Nat.{div-add-mod', mod-lt}
 use Rattle.rounding.proofs.division.by_word.Statement.{statement}
 use Rattle.rounding.proofs.division.by_word.Tie as tie
 
-div-t3 : tie.Need-div-t3
-div-t3 c = search needs
+div-quotient : tie.Need-div-quotient
+div-quotient c = search needs
 
-rem-t4 : tie.Need-rem-t4
-rem-t4 c = search needs
+mul-remainder : tie.Need-mul-remainder
+mul-remainder c = omega (arith, div-add-mod' (c .args .n) (c .args .d))
+
+sub-remainder : tie.Need-sub-remainder
+sub-remainder c = omega (arith, div-add-mod' (c .args .n) (c .args .d))
 
 returns : tie.Need-returns
-returns c = record { same = div-add-mod' (c .args .n) (c .args .d); less = mod-lt (c .args .n) (c .pre) }
+returns c =
+    let a = c .args in
+    let e = div-add-mod' (a .n) (a .d) in
+    record { same = omega arith; less = omega (arith, mod-lt (a .n) (c .pre)) }
 
 pub by-word-spec : {M : Type 1} → statement M
-by-word-spec = tie.close (tie.spec div-t3 rem-t4 returns)
+by-word-spec = tie.close (tie.spec div-quotient mul-remainder sub-remainder returns)
