@@ -31,7 +31,7 @@ KNOWN = [
     ('by_calls', 'call once; call never; call once; ret', 2),
     ('by_a_last_jump', 'div %rcx; jmp once', 2),
     ('by_a_jump_of_a_branch', 'je once; div %rcx; ret', 1),
-    ('by_a_jump_into_another', 'div %rcx; jmp twice + 3', 'twice-0x1 is not here'),
+    ('by_a_jump_into_another', 'div %rcx; jmp twice + 3', '.text.of_twice-0x1 is not here'),
     ('by_another_library', 'call __udivti3; ret', '__udivti3 is not here'),
     ('by_an_address', 'div %rcx; jmp *%rax', 'it goes where an address says'),
     ('by_itself', 'div %rcx; call by_itself; ret', 'it calls itself'),
@@ -60,42 +60,48 @@ class Instruction:
     """Its place and its name, and where it leads: to a place, in a function, or where an address says."""
 
     def __init__(self, place, text):
-        words = [word for word in text.split() if not PREFIX.fullmatch(word)]
+        words = [word for word in text.split() if not PREFIX.fullmatch(word)] or ['']
         named = re.search(r' ([0-9a-f]+) <([^>]+)>$', text)
         self.place, self.name = place, words[0]
         self.target, self.function = (int(named[1], 16), named[2]) if named else (None, None)
         self.by_address = len(words) > 1 and words[1].startswith('*')
 
     def relocated(self, symbol):
-        """The linker is to fill in where it leads: the start of a function, or of a section that holds one, less 4."""
-        self.target, self.function = None, symbol.removeprefix('.text.').removesuffix('-0x4')
+        """The linker is to fill in where it leads: the start of a function or of a section, less 4."""
+        self.target, self.function = None, symbol.removesuffix('-0x4')
 
     def divides(self):
         return 'div' in self.name
 
     def calls(self):
-        return self.name.startswith('call')
+        return 'call' in self.name
 
     def jumps(self):
-        return self.name.startswith(('j', 'loop'))
+        return self.name.startswith(('j', 'ljmp', 'loop', 'xbegin'))
 
     def goes_on(self):
         """The next instruction may come after it."""
-        return not self.name.startswith(('ret', 'jmp', 'ud2', 'hlt'))
+        return not self.name.startswith(('ret', 'jmp', 'ljmp', 'ud2', 'hlt'))
 
 
 def functions_of(path):
-    """The instructions of each function of an object or an archive."""
-    functions, code = {}, []
+    """The instructions of each function of an object or an archive; a section leads to the function that it begins with."""
+    functions, firsts, section, code = {}, {}, '', []
     for line in said('objdump', '-dr', '--no-show-raw-insn', path).splitlines():
-        if start := re.match(r'[0-9a-f]+ <(.+)>:$', line):
-            if start[1] in functions:
-                sys.exit(f'divisions: {path} has two functions {start[1]}')
-            code = functions[start[1]] = []
-        elif moved := re.match(r'\s+[0-9a-f]+: R_X86_64_\w+\s+(\S+)$', line):
-            code[-1].relocated(moved[1])
+        if begun := re.match(r'Disassembly of section (.+):$', line):
+            section = begun[1]
+        elif start := re.match(r'([0-9a-f]+) <(.+)>:$', line):
+            if start[2] in functions or section in firsts and int(start[1], 16) == 0:
+                sys.exit(f'divisions: {path} has {start[2]} twice, or two functions at the start of {section}')
+            code = functions[start[2]] = []
+            if int(start[1], 16) == 0:
+                firsts[section] = start[2]
+        elif 'R_X86_64_' in line:
+            code[-1].relocated(line.rsplit('\t', 1)[1])
         elif found := re.match(r' *([0-9a-f]+):\t(.*?)\s*$', line):
             code.append(Instruction(int(found[1], 16), found[2]))
+    for instruction in (instruction for code in functions.values() for instruction in code):
+        instruction.function = firsts.get(instruction.function, instruction.function)
     return functions
 
 
@@ -151,19 +157,23 @@ def most_divisions(functions, name, callers=()):
     return most[0]
 
 
-def instructions(functions, name):
-    """The division instructions of a function and of those that it leaves for."""
-    code, places = functions[name], places_of(functions[name])
-    others = {leaves_for(instruction, places) for instruction in code} - {''}
-    return sum(instruction.divides() for instruction in code) + sum(instructions(functions, other) for other in others)
-
-
 def count(functions, name):
     """The same, or the reason why there is no such number."""
     try:
         return most_divisions(functions, name)
     except Uncounted as why:
         return str(why)
+
+
+def reached(functions, name):
+    """The function, and those that it and they leave for."""
+    others = {leaves_for(instruction, places_of(functions[name])) for instruction in functions[name]} - {''}
+    return {name}.union(*(reached(functions, other) for other in others))
+
+
+def instructions(functions, name):
+    """The division instructions of all that it may run."""
+    return sum(instruction.divides() for each in reached(functions, name) for instruction in functions[each])
 
 
 def hold(functions, name, allowed):
@@ -174,10 +184,10 @@ def hold(functions, name, allowed):
 # ---- what is counted
 
 def try_known():
-    """Each piece of code in a section of its own, as the compiler has it."""
+    """Each piece of code stands in a section of its own, as the compiler has it."""
     made = ROOT / 'target' / 'divisions.o'
     made.parent.mkdir(exist_ok=True)
-    code = ''.join(f'.section .text.{name}, "ax", @progbits\n{name}: {code}\n' for name, code, _ in KNOWN)
+    code = ''.join(f'.section .text.of_{name}, "ax", @progbits\n{name}: {code}\n' for name, code, _ in KNOWN)
     said('as', '--64', '-o', made, '-', input=code)
     functions = functions_of(made)
     for name, _, known in KNOWN:
@@ -205,8 +215,8 @@ def check():
     if not roundings() or not alone:
         sys.exit('divisions: there is no rounding to count, or none in the library')
     counts = [f'{name} {instructions(exported, f"rounding_bench_{name}")}' for name in roundings()]
-    print(f'division instructions: {", ".join(counts)}; no way through a rounding has a second one, nor in the library '
-          f'through {", ".join(alone)}')
+    print(f'at most one division on any way through a rounding, and in the library through {", ".join(alone)}; '
+          f'division instructions in all: {", ".join(counts)}')
 
 
 if __name__ == '__main__':

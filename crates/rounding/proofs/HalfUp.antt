@@ -1,4 +1,4 @@
--- The two-sided law of `nearest`, its uniqueness, and what a quotient and a remainder say of it. Of the laws only these know where a half goes.
+-- The two-sided law of `nearest`, its uniqueness, and what a quotient and a remainder say of it. Of the law files this one knows where a half goes.
 use mathlib.Core.Path.{_≡_, refl, sym, ap, _∙_}
 use mathlib.Core.Bool.{Bool, true, false, cond}
 use Prim.Native.Nat.{ℕ, _+_, _*_, _≤_, _<_}

@@ -1,6 +1,6 @@
--- The laws of rounding are for callers, and so is what is stated of its division; the others serve this crate's proofs.
+-- The laws of rounding are for callers, and what is stated of its one division is for readers; the others serve this crate's proofs.
 pub mod NearestLaws
-pub mod OneDivision
+pub mod OnePair
 mod HalfUp
 mod Halves
 mod Room

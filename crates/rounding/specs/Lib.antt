@@ -2,4 +2,4 @@ pub mod Nearest
 pub mod Words
 pub mod Division
 pub mod Signed
-pub mod OneDivision
+pub mod OnePair

@@ -2,7 +2,7 @@
 // of any width once, after its division (rule 6.3).
 // words.rt has products in two words, division.rt one long division that gives quotient and remainder, and this file
 // the rounded quotients that every figure is made with, each from one such pair (rule 6.4, stated in
-// specs/OneDivision.antt). The rule itself is `nearest`, in specs/Nearest.antt; callers rest on its laws, in
+// specs/OnePair.antt). The rule itself is `nearest`, in specs/Nearest.antt; callers rest on its laws, in
 // proofs/NearestLaws.antt, and not on its text. Each `requires` is what a caller must show.
 pub mod division;
 pub mod words;

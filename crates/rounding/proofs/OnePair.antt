@@ -5,7 +5,9 @@ use native.Mathlib.Nat.{div-add-mod', mod-lt, lt-of-mul-lt-mul-right}
 use native.Mathlib.Omega.{arith}
 use Rattle.rounding.specs.declared.division.Division.{Division}
 use Rattle.rounding.specs.Division.{DivisionOf}
-use Rattle.rounding.specs.OneDivision.{Rounds-By-One-Division, Signed-Rounds-By-One-Division}
+use Rattle.rounding.specs.Words.{value}
+use Rattle.rounding.specs.Nearest.{nearest}
+use Rattle.rounding.specs.OnePair.{FromOnePair, Rounded-From-One-Pair}
 use Rattle.rounding.proofs.HalfUp.{of-pair}
 use Rattle.rounding.proofs.SignedLaws.{signed-size, signed-sign}
 
@@ -21,8 +23,8 @@ same-pair {d = d} s t hs ht =
     let remainders : s .remainder ≡ t .remainder = omega (arith, ap (λ (q : ℕ). q * d) quotients) in
     λ i. record { quotient = quotients i; remainder = remainders i }
 
-pub rounds-by-one-division : Rounds-By-One-Division
-rounds-by-one-division n d r h e =
+from-one-pair : (n d r : ℕ) → 0 < d → r ≡ nearest n d → FromOnePair n d r
+from-one-pair n d r h e =
     let pair : Division = record { quotient = n / d; remainder = n % d } in
     let divides : DivisionOf n d pair = record { same = div-add-mod' n d; less = omega (arith, mod-lt n h) } in
     record {
@@ -32,9 +34,15 @@ rounds-by-one-division n d r h e =
       made = e ∙ of-pair n d pair divides;
     }
 
-pub signed-rounds-by-one-division : Signed-Rounds-By-One-Division
-signed-rounds-by-one-division a b d r h e =
+pub rounded-from-one-pair : Rounded-From-One-Pair
+rounded-from-one-pair =
     record {
-      size = rounds-by-one-division (a .size * b) d (r .size) h (signed-size a b d r h e);
-      sign = signed-sign a b d r h e;
+      div-nearest = from-one-pair;
+      wide-div-nearest = λ w. from-one-pair (value w);
+      mul-div-nearest = λ a b. from-one-pair (a * b);
+      mul-mul-div-nearest = λ a b c. from-one-pair (a * b * c);
+      signed-mul-div-nearest = λ a b d r h e. record {
+        size = from-one-pair (a .size * b) d (r .size) h (signed-size a b d r h e);
+        sign = signed-sign a b d r h e;
+      };
     }
