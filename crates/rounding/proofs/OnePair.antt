@@ -23,6 +23,7 @@ same-pair {d = d} s t hs ht =
     let remainders : s .remainder ≡ t .remainder = omega (arith, ap (λ (q : ℕ). q * d) quotients) in
     λ i. record { quotient = quotients i; remainder = remainders i }
 
+-- and the rule makes the rounded quotient from it
 from-one-pair : (n d r : ℕ) → 0 < d → r ≡ nearest n d → FromOnePair n d r
 from-one-pair n d r h e =
     let pair : Division = record { quotient = n / d; remainder = n % d } in
