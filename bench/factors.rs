@@ -33,5 +33,5 @@ fn step(row: &Row, works: bool, i: u64, f: u64) -> u64 {
 pub fn nearest(n: u128, d: u128) -> u128 {
     let q = n / d;
     let r = n - q * d;
-    q + (r >= d - r) as u128
+    q + (r + q % 2 > d - r) as u128
 }

@@ -117,7 +117,7 @@ fn summed_weights(rows: &Rows) -> [u64; AGES] {
 
 fn nearest(n: u64, d: u64) -> u64 {
     let (q, r) = (n / d, n % d);
-    q + (r >= d - r) as u64
+    q + (r + q % 2 > d - r) as u64
 }
 
 // ---- the range rules: a refusal's number, 0 for none

@@ -59,7 +59,7 @@ mod rust {
     pub fn nearest(n: u128, d: u128) -> u128 {
         let q = n / d;
         let r = n - q * d;
-        q + (r >= d - r) as u128
+        q + (r + q % 2 > d - r) as u128
     }
 }
 

@@ -120,8 +120,7 @@ def reach(shape, pension, figure, method):
 
 def shift(n, d):
     """By how much n / d grows where it is rounded."""
-    rest = n % d
-    return (d - rest if 2 * rest >= d else -rest) / d
+    return (nearest(n, d) * d - n) / d
 
 
 def pushing_deaths(shape, parts, sign, rng):

@@ -72,7 +72,7 @@ def worked():
         case = Case(plan._replace(method=method), short_table(), Member(7, 63, 64, 0))
         cost, liability = said[name]
         yield case, dict(benefit='200.00', value='181.82', cost=cost, liability=liability)
-        cost = dict(cost='82.65') if method == CP else {}
+        cost = dict(cost='82.64') if method == CP else {}
         yield case._replace(member=Member(7, 63, 63, 0)), dict(value='165.29', liability='0.00', **cost)
     yield from worked_benefits(plan)
     yield from worked_level()
@@ -109,6 +109,9 @@ def worked_bounds(plan):
     for service, answer in ((20, dict(benefit='1000000.00')), (21, 25)):
         final = plan._replace(formula=FINAL, unit=500, average=1)
         yield Case(final, level_table(), Member(7, 65 - service, 60, MOST_SALARY)), answer
+    for salary, answer in (('666666.67', dict(benefit='1000000.00')), ('666666.68', 25)):
+        final = plan._replace(retire=60, formula=FINAL, unit=500, average=1)
+        yield Case(final, short_table(), Member(7, 30, 40, dollars(salary))), answer
 
 
 def check_worked():
@@ -125,8 +128,9 @@ def check_worked():
 
 
 def check_worked_parts():
-    """What is worked by hand beside the figures of a member: rules 14.3, 14.4 and 14.7."""
+    """What is worked by hand beside the figures of a member: rules 14.3, 14.4, 14.7 and 14.17."""
     (plan, rows, member), _ = next(worked())
+    ceiling = plan._replace(retire=60, formula=FINAL, unit=500, average=1), rows, Member(7, 30, 40, dollars('666666.67'))
     final = plan._replace(formula=FINAL, unit=200, average=2), rows, member._replace(salary=dollars('10000.00'))
     factors, costs = Factors(plan, rows, nearest), rounded_costs(plan, rows, member)
     parts = {
@@ -136,6 +140,7 @@ def check_worked_parts():
         'N of CP at 63 before rounding': (Fraction(costs.V(63) * 1000 * S, factors.Z(65)[63]), Fraction('8264.5')),
         'B(64)': (benefit(*final, 64), dollars('181.82')),
         'B(65)': (benefit(*final, 65), dollars('381.82')),
+        'B(60) before rounding': (exact_benefit(*ceiling, 60), Fraction('100000000.5')),
     }
     for name, (made, said) in parts.items():
         if made != said:
@@ -321,9 +326,11 @@ def all_extreme(case):
 
 
 def at_largest_benefit():
-    """About B(r) = 1000000.00, with equal weights and one year's pay: 25 goes by the rounded benefit."""
+    """About B(r) = 1000000.00, with equal weights and one year's pay: 25 goes by the rounded benefit, and half a cent over
+    is rounded off."""
     # Years of service at 5 percent, and a salary for which B(r) before its rounding is 100000000 cents and the tenths.
-    for service, salary, tenths in ((26, 76923077, 1), (24, 83333333, -4), (30, 66666667, 5), (24, 83333334, 8)):
+    for service, salary, tenths in ((26, 76923077, 1), (24, 83333333, -4), (30, 66666667, 5),
+                                    (33, 60606061, 6.5), (24, 83333334, 8)):
         for method in METHODS:
             plan = Plan(0, 50, FINAL, 500, 1, method, 0, 1)
             case = Case(plan, level_table(), Member(1, 50 - service, 40, salary))

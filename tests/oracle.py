@@ -64,8 +64,15 @@ def short_table():
 # ---- rounding: RULES section 6
 
 def nearest(n, d):
-    """Rule 6.1, n / d to the nearest whole, halfway up; rule 6.2, below 0 the size is rounded and the sign put back."""
-    size = (2 * abs(n) + d) // (2 * d)
+    """Rule 6.1, n / d to the nearest whole, and where two are as near, to the even one of them; rule 6.2, below 0 the size
+    is rounded and the sign put back."""
+    below = abs(n) // d
+    above = below + 1
+    to_below, to_above = abs(n) - below * d, above * d - abs(n)
+    if to_below == to_above:
+        size = below if below % 2 == 0 else above
+    else:
+        size = below if to_below < to_above else above
     return -size if n < 0 else size
 
 

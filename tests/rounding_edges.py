@@ -8,19 +8,21 @@ quotient and remainder, where the quotient fits one; and then the rounded quotie
 factors a and b ends with the rounded quotient of -a and b. A space follows each number.
 """
 import sys
+from fractions import Fraction
 from itertools import product
+from math import prod
 from pathlib import Path
 
 WORD = 2**64
-# Many quotients are exact halves, which show where a half goes: an odd product over 2, of one word or of two, and
-# 2^31 times 2^64 - 1 over 2^32, a product of two words over a divisor that is not below 2^32.
-EDGES = [0, 1, 2, 3, 2**31, 2**32 - 1, 2**32, 2**32 + 1, 2**63, 2**64 - 1]
-FACTORS = [1, 2, 3, 2**32 + 1, 2**63]
+# Many quotients lie halfway, and show where a half goes: `check` sees to it that there are such of products of one word and
+# of two, over a divisor below 2^32 and one that isn't, and of three factors, from an even number below and from an odd one.
+EDGES = [0, 1, 2, 3, 2**31, 2**32 - 1, 2**32, 2**32 + 1, 2**63 + 1, 2**64 - 1]
+FACTORS = [1, 2, 3, 2**32 + 1, 2**63 + 1]
 
 
 def nearest(n, d):
-    """Rule 6.1: n / d to the nearest whole, halfway up."""
-    return (2 * n + d) // (2 * d)
+    """Rule 6.1: n / d to the nearest whole, and halfway to the even one of two. So does Python's own round."""
+    return round(Fraction(n, d))
 
 
 def divided(n, d):
@@ -53,7 +55,19 @@ def text():
     return ''.join(''.join(f'{number} ' for number in line) + '\n' for line in lines)
 
 
+def halves():
+    """Of the rounded quotients that lie halfway: how many factors, words of the product, and words of 32 bits of the
+    divisor there are, and whether the number below is odd."""
+    for *factors, d in [*product(EDGES, repeat=3), *product(FACTORS, repeat=4)]:
+        n = prod(factors)
+        if divided(n, d)[1] and 2 * (n % d) == d:
+            yield len(factors), 1 if n < WORD else 2, 1 if d < 2**32 else 2, n // d % 2
+
+
 def check():
+    wanted = {(2, *two, odd) for two in ((1, 1), (2, 1), (2, 2)) for odd in (0, 1)} | {(3, 2, 1, 0), (3, 2, 1, 1)}
+    if not wanted <= set(halves()):
+        sys.exit(f'rounding_edges: there are no halves of {wanted - set(halves())}')
     stored = Path(__file__).parent.parent / 'crates' / 'rounding_edges' / 'stdout'
     if stored.read_text() != text():
         sys.exit('rounding_edges: crates/rounding_edges/stdout is not what this program makes')

@@ -58,6 +58,9 @@ def worked():
     yield 'the empty file', b'', b'refused=2,1\n'
     yield 'end=0', file(heading(), short, []), b'total=0,0.00,0.00,0.00\n'
     yield 'salary 4125.50.75', file(heading(), short, [member(7, salary='4125.50.75')]), b'refused=20,115\n'
+    for assets, payment in (('0.01', b'0.00'), ('0.03', b'-0.02'), ('0.05', b'-0.02')):
+        yield f'interest 0, {assets} too much in 2 years', file(heading(interest=0, assets=assets), short, []), (
+            b'total=0,0.00,0.00,0.00\nunfunded=-%s\nsupplemental=%s\n' % (assets.encode(), payment))
     yield from worked_methods(short, level)
     yield from worked_benefits(short)
     yield from worked_bounds(short, level)
@@ -67,7 +70,7 @@ def worked_methods(short, level):
     for method, said in dict(AB=b'90.91,90.91', BD=b'90.91,90.91', BP=b'95.24,86.58', CP=b'90.91,90.91').items():
         yield f'{method} at 64', file(heading(method=method), short, [member(7)]), b'member=7,200.00,181.82,' + said
     for method in METHOD_NAMES.values():
-        cost = b'82.65' if method == 'CP' else b'*'
+        cost = b'82.64' if method == 'CP' else b'*'
         case = file(heading(method=method), short, [member(7, 63, 63)])
         yield f'{method} at 63', case, b'member=7,200.00,165.29,%s,0.00\n' % cost
     for method in METHOD_NAMES.values():
@@ -94,6 +97,9 @@ def worked_bounds(short, level):
     for service, said in ((20, b'member=7,1000000.00,'), (21, b'refused=25,115\n')):
         members = [member(7, 65 - service, 60, '1000000.00')]
         yield f'salary 1000000.00, {service} years', file(final, level, members), said
+    final = heading(retire=60, formula='final', unit=500, average=1)
+    for salary, said in (('666666.67', b'member=7,1000000.00,'), ('666666.68', b'refused=25,115\n')):
+        yield f'salary {salary}, 30 years', file(final, short, [member(7, 30, 40, salary)]), said
 
 
 def check_worked():

@@ -1,16 +1,17 @@
--- RULES section 14, figures worked by hand: those with a P as far as they concern factors, benefits, V, N and L, computed from the definitions as one list. Cents. The last entry says that the plan and the member are accepted.
+-- RULES section 14, figures worked by hand: those with a P as far as they concern factors, benefits, V, N and L, computed from the definitions as one list. Cents. Beside a benefit or a figure that lies at a half stands that it does; refusal 0 says that the plan and the member are accepted.
 use mathlib.Core.Path.{_≡_, refl}
 use mathlib.Core.Bool.{true}
 use mathlib.Core.List.{List, [], _∷_, _++_}
 use Prim.Native.Nat.{ℕ, _*_}
 use Rattle.rounding.specs.Nearest.{nearest}
-use Rattle.fractions.specs.Ratio.{_over_, whole, _⊕_, _⊗_, inverse}
+use Rattle.fractions.specs.Ratio.{Ratio, _over_, whole, _⊕_, _⊗_, inverse}
 use Rattle.annuity.specs.Recursion.{carried}
 use Rattle.annuity.specs.Basis.{stays, staying}
 use Rattle.annuity.specs.Factors.{S, step, A, pension, G, T, Z}
 use Rattle.annuity.specs.Figures.{short, Figure, _is_, all-are, factors}
 use Rattle.plan.specs.declared.Plan.{Plan}
 use Rattle.plan.specs.declared.Member.{Member}
+use Rattle.plan.specs.declared.Formula.the-variants.{Final}
 use Rattle.plan.specs.declared.Method.the-variants.{AB, BD, BP, CD, CP}
 use Rattle.plan.specs.Weights.{summed}
 use Rattle.plan.specs.Benefit.{formulaOf, pay, pays, exactBenefit, B}
@@ -38,6 +39,17 @@ pay-plan formula average =
 abbrev benefit : ℕ → ℕ → ℕ → ℕ
 benefit formula average k = B (pay-plan formula average) short (record { id = 7; entry = 63; age = 64; salary = 1000000 }) k
 
+-- rule 14.17, a benefit that lies halfway between the largest that is accepted and a cent more
+abbrev ceiling-plan : Plan
+ceiling-plan =
+    record { interest = 1000; retire = 60; formula = 3; unit = 500; average = 1; method = 4; assets = 2000; years = 2 }
+
+abbrev ceiling-member : ℕ → Member
+ceiling-member salary = record { id = 7; entry = 30; age = 40; salary = salary }
+
+abbrev ceiling-benefit : Ratio
+ceiling-benefit = exactBenefit ceiling-plan short (ceiling-member 66666667) Final 60
+
 unfoldable pub figures : List Figure
 figures =
     factors
@@ -51,7 +63,7 @@ figures =
     ∷ (L short-case CD 64 is 9524)
     ∷ (N short-case CP 64 is 9091)
     ∷ (L short-case CP 64 is 9091)
-    ∷ (N short-case CP 63 is 8265)
+    ∷ (N short-case CP 63 is 8264)
     ∷ (10 * (PV short-case 63 * W short-case 63 * S) is 82645 * Z (short-case .basis) 63 65)
     ∷ (PV short-case 63 is 16529)
     ∷ (L short-case AB 63 is 0)
@@ -64,6 +76,10 @@ figures =
     ∷ (benefit 3 2 65 is 38182)
     ∷ (benefit 3 1 65 is 40000)
     ∷ (loneRefusal short-plan short short-member is 0)
+    ∷ (10 * ceiling-benefit .upper is 1000000005 * ceiling-benefit .lower)
+    ∷ (B ceiling-plan short (ceiling-member 66666667) 60 is 100000000)
+    ∷ (loneRefusal ceiling-plan short (ceiling-member 66666667) is 0)
+    ∷ (loneRefusal ceiling-plan short (ceiling-member 66666668) is 25)
     ∷ []
 
 pub figures-are : all-are figures ≡ true

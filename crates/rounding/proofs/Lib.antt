@@ -1,7 +1,8 @@
--- The laws of rounding are for callers, and what is stated of its one division is for readers; the others serve this crate's proofs.
+-- The laws of rounding are for callers, and what is stated of its one division is for readers; the others serve this crate's proofs. Where a half goes is in HalfEven, and so for this crate alone.
 pub mod NearestLaws
 pub mod OnePair
-mod HalfUp
+mod HalfEven
+mod Pairs
 mod Halves
 mod Room
 mod SignedLaws

@@ -1,30 +1,30 @@
 -- The laws of `nearest` that callers use: within a half either way, exact where d divides n, monotone, and what follows.
--- They hold of every rule that rounds to a nearest whole, whatever it does with a half.
-use mathlib.Core.Path.{_≡_, refl, ap}
+-- They don't say where a half goes: up, down or to the even neighbour, they hold alike.
+use mathlib.Core.Path.{_≡_, refl, sym, ap}
 use Prim.Native.Nat.{ℕ, zero, suc, _+_, _*_, _≤_, _<_}
-use native.Mathlib.Nat.{mul-one, mul-le-mul-left, mul-le-mul-right, mul-lt-mul-of-pos-right, le-of-mul-le-mul-right, lt-of-mul-lt-mul-left, lt-of-mul-lt-mul-right}
+use native.Mathlib.Nat.{mul-one, mul-le-mul-left, mul-le-mul-right, le-of-mul-le-mul-right, eq-of-mul-eq-mul-right}
 use native.Mathlib.Omega.{arith}
 use lib.IntN.{pos, negℤ}
 use Rattle.rounding.specs.Nearest.{nearest, nearestℤ}
-use Rattle.rounding.proofs.HalfUp.{half-up-low, half-up-high, half-up-only}
+use Rattle.rounding.specs.HalfEven.{Rounded}
+use Rattle.rounding.proofs.HalfEven.{rounded, rounded-mono, rounded-only}
 
 -- the answer times d is above n by half of d at most
 pub nearest-below : (n d : ℕ) → 2 * (nearest n d * d) ≤ 2 * n + d
-nearest-below n d = omega (arith, half-up-low n d)
+nearest-below n zero = omega arith
+nearest-below n (suc d) = rounded n (suc d) (omega arith) .above
 
 -- and below n by half of d at most
 pub nearest-above : (n d : ℕ) → 0 < d → 2 * n ≤ 2 * (nearest n d * d) + d
-nearest-above n d h = omega (arith, half-up-high n d h)
+nearest-above n d h = rounded n d h .below
 
 -- where d divides n nothing is rounded
 pub nearest-exact : (q d : ℕ) → 0 < d → nearest (q * d) d ≡ q
-nearest-exact q d h = half-up-only (q * d) d q (omega arith) (omega arith)
+nearest-exact q d h = sym (rounded-only (q * d) d q h (omega arith))
 
 -- a larger number is not rounded to a smaller one
 pub nearest-mono : (m n d : ℕ) → 0 < d → m ≤ n → nearest m d ≤ nearest n d
-nearest-mono m n d h le =
-    let b : 2 * d * nearest m d < 2 * d * (nearest n d + 1) = omega (arith, half-up-low m d, half-up-high n d h) in
-    omega (arith, lt-of-mul-lt-mul-left (2 * d) {m = nearest m d} {n = nearest n d + 1} b)
+nearest-mono m n d h le = rounded-mono m n d (nearest m d) (nearest n d) h le (rounded m d h) (rounded n d h)
 
 -- a product with at most one is rounded to no more than it was
 pub nearest-shrinks : (f p d : ℕ) → 0 < d → p ≤ d → nearest (f * p) d ≤ f
@@ -44,9 +44,13 @@ nearest-quotient q r d h =
 pub nearest-cross : (n d m e : ℕ) → 0 < d → 0 < e → n * e ≡ m * d → nearest n d ≡ nearest m e
 nearest-cross n d m e hd he cross =
     let q : ℕ = nearest m e in
-    half-up-only n d q
-    (le-of-mul-le-mul-right {m = 2 * d * q} {n = 2 * n + d} {k = e} (omega (arith, mul-le-mul-right d (half-up-low m e))) he)
-    (lt-of-mul-lt-mul-right e {m = 2 * n + d} {n = 2 * d * (q + 1)} (omega (arith, mul-lt-mul-of-pos-right {k = d} (half-up-high m e he) hd)))
+    let is : Rounded m e q = rounded m e he in
+    sym (rounded-only n d q hd (record {
+      above = le-of-mul-le-mul-right {m = 2 * (q * d)} {n = 2 * n + d} {k = e} (omega (arith, mul-le-mul-right d (is .above))) he;
+      below = le-of-mul-le-mul-right {m = 2 * n} {n = 2 * (q * d) + d} {k = e} (omega (arith, mul-le-mul-right d (is .below))) he;
+      half-above = λ half. is .half-above (eq-of-mul-eq-mul-right d hd (2 * (q * e)) (2 * m + e) (omega (arith, ap (λ (x : ℕ). x * e) half)));
+      half-below = λ half. is .half-below (eq-of-mul-eq-mul-right d hd (2 * m) (2 * (q * e) + e) (omega (arith, ap (λ (x : ℕ). x * e) half)));
+    }))
 
 -- rule 6.2: below 0 the size is rounded
 pub nearest-negative : (n d : ℕ) → 0 < d → nearestℤ (negℤ (pos n)) d ≡ negℤ (pos (nearest n d))

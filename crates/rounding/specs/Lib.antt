@@ -1,4 +1,5 @@
 pub mod Nearest
+pub mod HalfEven
 pub mod Words
 pub mod Division
 pub mod Signed

@@ -1,5 +1,5 @@
-// Rounding, RULES section 6: the nearest whole, halfway up, and below 0 by the size (rules 6.1 and 6.2); of a product
-// of any width once, after its division (rule 6.3).
+// Rounding, RULES section 6: the nearest whole, halfway the even one of two, and below 0 by the size (rules 6.1 and 6.2);
+// of a product of any width once, after its division (rule 6.3).
 // words.rt has products in two words, division.rt one long division that gives quotient and remainder, and this file
 // the rounded quotients that every figure is made with, each from one such pair (rule 6.4, stated in
 // specs/OnePair.antt). The rule itself is `nearest`, in specs/Nearest.antt; callers rest on its laws, in
@@ -16,15 +16,17 @@ ghost use Rattle.rounding.specs.Nearest.{nearest, nearestℤ};
 ghost use Rattle.rounding.specs.Signed.{integer, signed};
 ghost use Rattle.rounding.specs.Words.{value};
 
-// The nearest whole to a division's exact quotient, from its pair and without dividing (rule 6.4). The remainder is held
-// against what it lacks to the divisor, so that nothing is doubled.
-fn half_up(s: Division, d: u64) -> u64
+// The nearest whole to a division's exact quotient, from its pair and without another division (rule 6.4): whether the
+// quotient is odd is its last bit. The remainder is held against what it lacks to the divisor, so that nothing is doubled.
+// Halfway these two are equal, and the bit decides: an odd quotient is raised to the even number above it.
+fn half_even(s: Division, d: u64) -> u64
     requires { ⌜ (s .remainder < d) × (nearest (s .quotient * d + s .remainder) d < 2 ^ 64) ⌝ }
     ensures { λ r. ⌜ r ≡ nearest (s .quotient * d + s .remainder) d ⌝ }
 {
     let q = s.quotient;
     let r = s.remainder;
-    if r >= d - r { q + 1 } else { q }
+    let odd = q % 2;
+    if r + odd > d - r { q + 1 } else { q }
 }
 
 // n / d, rounded.
@@ -32,7 +34,7 @@ pub fn div_nearest(n: u64, d: u64) -> u64
     requires { ⌜ 0 < d ⌝ }
     ensures { λ r. ⌜ r ≡ nearest n d ⌝ }
 {
-    half_up(division::by_word(n, d), d)
+    half_even(division::by_word(n, d), d)
 }
 
 // w / d for a w of two words, rounded.
@@ -48,7 +50,7 @@ fn words_div_nearest(high: u64, low: u64, d: u64) -> u64
     requires { ⌜ (0 < d) × (nearest (high * 2 ^ 64 + low) d < 2 ^ 64) ⌝ }
     ensures { λ r. ⌜ r ≡ nearest (high * 2 ^ 64 + low) d ⌝ }
 {
-    half_up(division::divide(Wide { high, low }, d), d)
+    half_even(division::divide(Wide { high, low }, d), d)
 }
 
 // a * b / d: rule 6.3, the whole product first, and one rounding after the division.

@@ -13,14 +13,14 @@ divide-requires c κs =
     let a = c .args in
     high-less (2 ^ 64) (a .high) (a .low) (a .d) (c .pre .0) (c .pre .1)
 
-half-up-requires : tie.Need-half-up-requires
+half-even-requires : tie.Need-half-even-requires
 unfolding value
-half-up-requires c κs = (c .divide .ensures .less, rw (c .divide .ensures .same) (c .before .pre .1))
+half-even-requires c κs = (c .divide .ensures .less, rw (c .divide .ensures .same) (c .before .pre .1))
 
 returns : tie.Need-returns
 unfolding value
 returns c =
-    c .half-up .ensures ∙ ap (λ (n : ℕ). nearest n (c .before .before .args .d)) (c .before .divide .ensures .same)
+    c .half-even .ensures ∙ ap (λ (n : ℕ). nearest n (c .before .before .args .d)) (c .before .divide .ensures .same)
 
 pub words-div-nearest-spec : {M : Type 1} → statement M
-words-div-nearest-spec = tie.close (tie.spec divide-requires half-up-requires returns)
+words-div-nearest-spec = tie.close (tie.spec divide-requires half-even-requires returns)

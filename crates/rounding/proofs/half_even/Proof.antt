@@ -1,10 +1,13 @@
--- `rounding::half_up` meets its contract.
+-- `rounding::half_even` meets its contract.
 use borrow.Author.Needs.{needs}
 use mathlib.Core.Path.{sym}
 use native.Mathlib.Omega.{arith}
-use Rattle.rounding.proofs.HalfUp.{raised, kept}
-use Rattle.rounding.proofs.half_up.Statement.{statement}
-use Rattle.rounding.proofs.half_up.Tie as tie
+use Rattle.rounding.proofs.HalfEven.{raised, kept}
+use Rattle.rounding.proofs.half_even.Statement.{statement}
+use Rattle.rounding.proofs.half_even.Tie as tie
+
+add-if1 : tie.Need-add-if1
+add-if1 c = search needs
 
 sub-if1 : tie.Need-sub-if1
 sub-if1 c = search needs
@@ -22,7 +25,7 @@ returns c =
 returns-2 : tie.Need-returns-2
 returns-2 c =
     let a = c .before .args in
-    sym (kept (a .s .quotient) (a .s .remainder) (a .d) (omega arith))
+    sym (kept (a .s .quotient) (a .s .remainder) (a .d) (omega arith) (omega arith))
 
-pub half-up-spec : {M : Type 1} → statement M
-half-up-spec = tie.close (tie.spec sub-if1 add-result returns returns-2)
+pub half-even-spec : {M : Type 1} → statement M
+half-even-spec = tie.close (tie.spec add-if1 sub-if1 add-result returns returns-2)
