@@ -35,36 +35,21 @@ class Found(NamedTuple):
     """A place, and the plan and the member whose quotient there is a half. At ages below r so many die as `death` says,
     and at r all do; the weight rises once, to `jump` times, at r - 1. A step is that of the member's age."""
     place: str
-    interest: int
-    retire: int
-    formula: int
-    unit: int
-    average: int
-    method: int
-    assets: int
-    years: int
-    entry: int
-    age: int
-    salary: int
+    plan: Plan
+    member: Member
     death: int
     jump: int
 
-    def plan(self):
-        return Plan(*self[1:9])
-
-    def member(self):
-        return Member(1, self.entry, self.age, self.salary)
-
     def rows(self):
-        r = self.retire
+        r = self.plan.retire
         return table(lambda k: (self.death if k < r else MILLION, 0, 0), lambda k: 1000 * (self.jump if k >= r - 1 else 1))
 
     def case(self):
-        return member_figures.Case(self.plan(), self.rows(), self.member())
+        return member_figures.Case(self.plan, self.rows(), self.member)
 
     def members(self):
         """Of the case file: none where nothing is owed."""
-        return [] if PAYMENTS.get(self.place) == -1 else [self.member()]
+        return [] if PAYMENTS.get(self.place) == -1 else [self.member]
 
 
 class Quotients:
@@ -87,21 +72,21 @@ def quotient(found):
     if found.place == 'step of C':
         certain(plan.interest, plan.years, kept)
     elif found.place.startswith('step of '):
-        factors.step(found.age, factors_of(factors, found)[found.age + 1])
+        factors.step(member.age, factors_of(factors, found)[member.age + 1])
     elif found.place == 'V':
-        Costs(*found.case(), factors).V(found.age)
+        Costs(plan, rows, member, factors).V(member.age)
     else:
-        Costs(*found.case(), factors).figure(*FIGURES[found.place], found.age)
+        Costs(plan, rows, member, factors).figure(*FIGURES[found.place], member.age)
     return kept.last
 
 
 def factors_of(factors, found):
     letter = found.place[-1]
-    return getattr(factors, letter)(*[found.retire] if letter in 'TZ' else [])
+    return getattr(factors, letter)(*[found.plan.retire] if letter in 'TZ' else [])
 
 
 def unfunded(found):
-    return value_oracle.valued(found.plan(), found.rows(), found.members()).unfunded()
+    return value_oracle.valued(found.plan, found.rows(), found.members()).unfunded()
 
 
 def stands(found, number):
@@ -116,7 +101,7 @@ def below(number):
 
 
 def to_even(number):
-    """Where a half goes: its size to the even neighbour, and then its sign."""
+    """Where a half goes: its size to the even one of two, and then its sign."""
     size = below(number)
     return (size + size % 2) * (-1 if number < 0 else 1)
 
@@ -134,8 +119,7 @@ def drawn(rng, place):
     y = rng.randint(max(FIRST, r - rng.choice([2, 4, 8, 20])), r - 1)
     x = rng.randint(y, r - 1)
     formula = rng.choice([CAREER, FINAL]) if place == 'B' else FLAT
-    return Found(
-        place=place,
+    plan = Plan(
         interest=rng.choice(INTERESTS),
         retire=r,
         formula=formula,
@@ -143,24 +127,22 @@ def drawn(rng, place):
         average=rng.randint(1, 10) if formula == FINAL else 0,
         method=FIGURES[place][1] if place in FIGURES else rng.choice(METHODS),
         assets=0,
-        years=rng.randint(2, 40),
-        entry=y,
-        age=x,
-        salary=rng.randint(1, MOST_SALARY) if formula != FLAT else 0,
-        death=rng.choice(DEATHS),
-        jump=rng.choice([1, 1, 2, 3, 5]))
+        years=rng.randint(2, 40))
+    member = Member(1, y, x, rng.randint(1, MOST_SALARY) if formula != FLAT else 0)
+    return Found(place, plan, member, death=rng.choice(DEATHS), jump=rng.choice([1, 1, 2, 3, 5]))
 
 
 def drawn_payment(rng, place):
     """With the assets that leave an odd part of C unfunded. Below 0 there are no members; above 0 the assets are less than
     the liability of one."""
-    one = drawn(rng, place)._replace(interest=rng.randint(0, 2000))
-    c = certain(one.interest, one.years, nearest)
+    one = drawn(rng, place)
+    plan = one.plan._replace(interest=rng.randint(0, 2000))
+    c = certain(plan.interest, plan.years, nearest)
     cents = c // gcd(c, 2 * S) * rng.randrange(1, 1000, 2)
     if PAYMENTS[place] < 0:
-        return one._replace(assets=cents)
-    owed = value_oracle.valued(one.plan(), one.rows(), [one.member()]).total('liability')
-    return one._replace(assets=max(0, owed - cents))
+        return one._replace(plan=plan._replace(assets=cents))
+    owed = value_oracle.valued(plan, one.rows(), [one.member]).total('liability')
+    return one._replace(plan=plan._replace(assets=max(0, owed - cents)))
 
 
 def found_one(rng, place, parity):
@@ -182,15 +164,21 @@ def search(seed=7):
             yield one
 
 
+HEADING = 'place', *Plan._fields, *Member._fields, 'death', 'jump'
+
+
 def write(found):
-    lines = [Found._fields, *found]
+    lines = [HEADING, *((one.place, *one.plan, *one.member, one.death, one.jump) for one in found)]
     STORED.write_text(''.join('\t'.join(map(str, line)) + '\n' for line in lines))
 
 
 def read():
     heading, *lines = (line.split('\t') for line in STORED.read_text().splitlines())
-    assert tuple(heading) == Found._fields
-    return [Found(place, *map(int, numbers)) for place, *numbers in lines]
+    assert tuple(heading) == HEADING
+    for place, *numbers in lines:
+        *numbers, death, jump = map(int, numbers)
+        plan, member = numbers[:len(Plan._fields)], numbers[len(Plan._fields):]
+        yield Found(place, Plan(*plan), Member(*member), death, jump)
 
 
 # ---- checking
@@ -208,7 +196,7 @@ def answered(found):
 
 def printed(found):
     """What value prints, held to the oracle to the last byte."""
-    case = value_files.case_file(found.plan(), found.rows(), found.members())
+    case = value_files.case_file(found.plan, found.rows(), found.members())
     said = value_files.answer(case)
     if said != value_oracle.lines(case):
         sys.exit(f'halves: {found}: value prints {said}, the oracle {value_oracle.lines(case)}')
@@ -218,19 +206,20 @@ def printed(found):
 def stepped(found):
     """The step alone: of the factor that the program writes, what isn't added by the year."""
     letter = found.place[-1]
-    case = annuity_factors.Case(found.interest, found.retire, found.retire, found.years, found.rows())
+    plan, rows, age = found.plan, found.rows(), found.member.age
+    case = annuity_factors.Case(plan.interest, plan.retire, plan.retire, plan.years, rows)
     said = subprocess.run([annuity_factors.PROGRAM], input=case.bytes(), stdout=subprocess.PIPE, check=True).stdout
     lines = said.decode().splitlines()
     if lines != case.lines():
         sys.exit(f'halves: {found}: the factors are not those of the oracle')
     factors = next(line.split()[1:] for line in lines if line[0] == letter)
-    factor = int(factors[0 if letter == 'C' else found.age - FIRST])
-    added = {'G': 0, 'Z': found.rows()[found.age][3] * S}
+    factor = int(factors[0 if letter == 'C' else age - FIRST])
+    added = {'G': 0, 'Z': rows[age][3] * S}
     return factor - added.get(letter, S)
 
 
 def check():
-    found = read()
+    found = list(read())
     parities = Counter()
     for one in found:
         number = quotient(one)
