@@ -8,7 +8,7 @@ use borrow.Author.Tests.{ltb-true, ltb-false, leb-true, leb-false, lt-ltb, le-lt
 use lib.Dec.{leb, ltb}
 use Rattle.rounding.specs.declared.division.Division.{Division}
 use Rattle.rounding.specs.Division.{DivisionOf}
-use Rattle.rounding.specs.Nearest.{nearest, nearestOf}
+use Rattle.rounding.specs.Nearest.{nearest, nearestOf, evenOf}
 use Rattle.rounding.specs.HalfEven.{Rounded, Half-Even}
 use Rattle.rounding.proofs.Pairs.{pair, divides, same-pair}
 
@@ -30,11 +30,19 @@ module _ (q r d : ℕ) (h : r < d) where
   more-than-half : d < r + r → nearest (q * d + r) d ≡ q + 1
   more-than-half more = whole ∙ simp (le-ltb (2 * r) d (omega arith), lt-ltb d (2 * r) (omega arith))
 
-  -- and one of just half raises it where it is odd
-  just-half : r + r ≡ d → nearest (q * d + r) d ≡ q + q % 2
+  -- and with one of just half the even one is taken
+  just-half : r + r ≡ d → nearest (q * d + r) d ≡ evenOf q
   just-half half = whole ∙ simp (le-ltb (2 * r) d (omega arith), le-ltb d (2 * r) (omega arith))
 
 -- ---- the sentence
+record Even (q e : ℕ) : Type 0 where
+  even : e % 2 ≡ 0
+  low : q ≤ e
+  high : e ≤ q + 1
+
+even-of : (q : ℕ) → Even q (evenOf q)
+even-of q = omega arith
+
 by-tests : (t u : Bool) (q r d : ℕ) → ltb (2 * r) d ≡ t → ltb d (2 * r) ≡ u → r < d → Rounded (q * d + r) d (nearest (q * d + r) d)
 by-tests true u q r d e f h =
     let less = ltb-true (2 * r) d e in
@@ -44,7 +52,9 @@ by-tests false true q r d e f h =
     rw (more-than-half q r d h (omega arith)) (omega arith)
 by-tests false false q r d e f h =
     let half : r + r ≡ d = omega (arith, ltb-false (2 * r) d e, ltb-false d (2 * r) f) in
-    let one : q % 2 * d ≤ 1 * d = mul-le-mul-right d (omega arith) in
+    let is = even-of q in
+    let low = mul-le-mul-right d (is .low) in
+    let high = mul-le-mul-right d (is .high) in
     rw (just-half q r d h half) (omega arith)
 
 pub rounded : (n d : ℕ) → 0 < d → Rounded n d (nearest n d)

@@ -6,12 +6,16 @@ use lib.Dec.{ltb}
 use lib.IntN.{ℤ, pos, negsuc, negℤ}
 use Rattle.rounding.specs.declared.division.Division.{Division}
 
--- rule 6.1, from the pair of a division by d (rule 6.4): the quotient q where the remainder is less than half of d, q + 1 where it is more than half, and where it is just half the even one of the two
+-- rule 6.1, of q and q + 1 the even one
+abbrev pub evenOf : ℕ → ℕ
+evenOf q = q + q % 2
+
+-- rule 6.1, from the pair of a division by d (rule 6.4): the quotient q where the remainder r is less than half of d, q + 1 where it is more than half, and where it is just half the even one of the two
 abbrev pub nearestOf : Division → ℕ → ℕ
 nearestOf s d =
     let q = s .quotient in
     let r = s .remainder in
-    cond (ltb (2 * r) d) q (cond (ltb d (2 * r)) (q + 1) (q + q % 2))
+    cond (ltb (2 * r) d) q (cond (ltb d (2 * r)) (q + 1) (evenOf q))
 
 -- rule 6.1, the nearest whole to n / d, and halfway the even one of two
 unfoldable pub nearest : ℕ → ℕ → ℕ
