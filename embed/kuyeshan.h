@@ -16,7 +16,6 @@
  *     10  the key, the form, a word or the age of a row is wrong
  *     11  a number is outside its range
  *     12  the average doesn't suit the formula
- *     13  the row's three rates sum to over 1000000
  *     14  the death rate at age 120 isn't 1000000
  *     15  the weight is out of range, or below that of the age before
  *   the payroll office mends:
@@ -29,7 +28,8 @@
  *     27  a member line after 1,000 members
  *   the calling program mends:
  *     30  what is to be printed is longer than the buffer
- * 26 is retired: it was for a benefit that falls, and none does. It is never given again.
+ * 13 and 26 are retired, and never given again: 13 was for rates that sum to over 1000000, which rates for one cause alone
+ * may do, and 26 for a benefit that falls, and none does.
  *
  * Memory: all of it is the caller's. No pointer is null, not even with a length of 0, and what one of them points to
  * overlaps nothing that another one points to. The library keeps no pointer, allocates nothing and has no state, so
@@ -67,7 +67,8 @@ uint64_t kuyeshan_refusal_line(uint64_t number, uint64_t line, uint8_t *out, siz
  *   plan      interest and, but for formula flat, unit in basis points; money in cents:
  *             interest, retire, formula (1 flat, 2 career, 3 final), unit, average,
  *             method (1 AB, 2 BD, 3 BP, 4 CD, 5 CP), assets, years
- *   rows      for each age from 15 to 120 in turn: death, withdrawal and disability in millionths, and the weight
+ *   rows      for each age from 15 to 120 in turn: death, withdrawal and disability in millionths, each as if no other
+ *             cause were at work, and the weight
  *   member    id, entry age, age, salary in cents a year
  *   figures   in whole cents, halfway to the even cent (rule 6.1): the yearly benefit, its present value, the
  *             normal cost, the liability

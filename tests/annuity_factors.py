@@ -41,28 +41,36 @@ class Case:
 
 # ---- tables
 
+def any_rates(rng, most=MILLION):
+    """Each for itself, whatever they sum to."""
+    return tuple(rng.randint(0, most) for _ in range(3))
+
+
+def one_takes_all(rng):
+    """One cause alone leaves nobody; the others are above 0 as a rule."""
+    rates = list(any_rates(rng))
+    rates[rng.randrange(3)] = MILLION
+    return tuple(rates)
+
+
 def kinds_of_rates(rng):
     """How a table's three rates are drawn. Where half stay and there is no interest, steps come to exact halves."""
     single = set(rng.sample(AGES, 6))
-
-    def split(total):
-        a, b = sorted(rng.randint(0, total) for _ in range(2))
-        return a, b - a, total - b
 
     def light(k):
         return rng.randint(0, 2000), rng.randint(0, 60000), rng.randint(0, 3000)
 
     def heavy(k):
-        return split(rng.randint(500000, MILLION))
+        return any_rates(rng)
 
     return {
         'none': lambda k: (0, 0, 0),
         'half die': lambda k: (MILLION // 2, 0, 0),
         'light': light,
         'heavy': heavy,
-        'light, all leave at single ages': lambda k: split(MILLION) if k in single else light(k),
+        'light, all leave at single ages': lambda k: one_takes_all(rng) if k in single else light(k),
         'heavy, all die at single ages': lambda k: (MILLION, 0, 0) if k in single else heavy(k),
-        'all leave': lambda k: split(MILLION),
+        'all leave': lambda k: one_takes_all(rng),
         'all die': lambda k: (MILLION, 0, 0),
     }
 
@@ -91,7 +99,7 @@ def skipped():
     cases = [Case(*numbers, short_table())
              for numbers in [(2001, 65, 65, 2), (1000, 14, 15, 2), (1000, 121, 65, 2), (1000, 65, 14, 2),
                              (1000, 65, 121, 2), (1000, 65, 65, 41)]]
-    for row in [(MILLION, 1, 0, 1000), (0, MILLION, 1, 1000), (1, 0, MILLION, 1000), (2**32 - 1, 1, 0, 1000),
+    for row in [(MILLION + 1, 0, 0, 1000), (0, MILLION + 1, 0, 1000), (0, 0, MILLION + 1, 1000), (2**32 - 1, 1, 0, 1000),
                 (0, 0, 0, 100001)]:
         for age in (FIRST, 64, LAST):
             cases.append(Case(1000, 65, 65, 2, {**short_table(), age: row}))

@@ -22,7 +22,7 @@ CRATE = ROOT / 'crates' / 'case_answers'
 PROGRAM = ROOT / 'target' / 'bin' / 'case_answers'
 PRIME = 1000003
 READING = {1, 2, 3, 4, 10, 20, 27}
-ACCEPTING = READING | {11, 12, 13, 14, 15, 21, 22, 23, 24, 25}
+ACCEPTING = READING | {11, 12, 14, 15, 21, 22, 23, 24, 25}
 
 # What a field is replaced by.
 DAMAGES = [b'', b'0', b'00', b'01', b'-1', b'+1', b' 1', b'1 ', b'999999999999', b'9999999999999', b'1.00', b'1.0',
@@ -70,7 +70,8 @@ def ranges():
     return [
         *(file(heading(retire=str(r)), level, []) for r in (49, 50, 75, 76)),
         *(file(heading(interest=str(i)), level, []) for i in (2000, 2001)),
-        *(file(heading(), {**level, 30: (400000, 300000, rate, 1000)}, []) for rate in (300000, 300001)),
+        *(file(heading(), {**level, 30: (*row, 1000)}, []) for most in (1000000, 1000001)
+          for row in ((most, 1, 1), (1, most, 1), (1, 1, most), (most, most, most))),
         *(file(heading(), {**level, 15: (0, 0, 0, weight)}, []) for weight in (999, 1000, 1001)),
         *(file(heading(), level, [member(id)]) for id in (0, 1, 999999999, 1000000000)),
         *(file(heading(), level, [member(7), member(id)]) for id in (6, 7, 8)),
@@ -103,7 +104,7 @@ def worked():
     yield file(heading(retire='49'), level, []), None, (11, 2)
     yield file(heading(retire='76'), level, []), None, (11, 2)
     yield file(heading(), {**level, 15: (0, 0, 0, 999)}, []), None, (15, 9)
-    yield file(heading(), {**level, 30: (400000, 300000, 300001, 1000)}, []), None, (13, 24)
+    yield file(heading(), {**level, 30: (400000, 300000, 300001, 1000)}, []), None, None
     yield file(heading(), level, [member(7, salary='4125.50.75')]), (20, 115), (20, 115)
     yield file(final, level, [member(7, 44, 64, '1000000.00')]), None, (25, 115)
 
@@ -188,8 +189,9 @@ def first_of(faults):
 
 
 def two_fault_bases():
-    """Each formula, with members that are far from every bound; the weights rise, so that one can fall."""
-    rising = {age: (400000, 10, 0, 1000 + age) if age < 120 else (1000000, 0, 0, 1120) for age in AGES}
+    """Each formula, with members that are far from every bound; the rates of a row sum to more than a million, and the
+    weights rise, so that one can fall."""
+    rising = {age: (400000, 700000, 10, 1000 + age) if age < 120 else (1000000, 0, 0, 1120) for age in AGES}
     members = [member(10, 20, 40, '500.00'), member(20, 30, 50, '600.00'), member(30, 25, 60, '700.00')]
     for terms in (dict(unit='900'), dict(formula='career', unit='500'), dict(formula='final', unit='500', average='3')):
         yield file(heading(**terms), rising, members).split(b'\n')[:-1]
@@ -216,7 +218,6 @@ def row_range_faults(age, weight):
     line = age - 6
     for part in (2, 3, 4):
         yield from (Fault(line, part, text, 11) for text in (b'1000001', b'999999999999'))
-    yield Fault(line, 4, b'1000000', 13)
     yield from (Fault(line, 5, text, 15) for text in (b'0', b'999', b'100001'))
     if age > FIRST:
         yield Fault(line, 5, b'%d' % (weight - 2), 15)

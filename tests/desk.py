@@ -30,7 +30,7 @@ TABLE = ROOT / 'bin' / 'refusals.tsv'
 # What the rules list. No file gives 30, since the program's buffer holds all outputs.
 RULES = ACCEPTING | {30}
 # What they listed once. It stands in no list again, and the command doesn't take it for an answer.
-RETIRED = {26}
+RETIRED = {13, 26}
 SENDER, ACTUARY, PAYROLL = 'the sender of the file', 'the plan actuary', 'the payroll office'
 CR = 'the line ends in CR, byte 13; save the file with line ends LF'
 MARK = 'the file begins with a byte-order mark; save it as plain text without one'
@@ -129,7 +129,6 @@ def faults():
     yield 10, 9, ACTUARY, edited(l9='row=16,0,0,0,1000')
     yield 11, 2, ACTUARY, edited(l2='retire=49')
     yield 12, 5, ACTUARY, edited(l5='average=1')
-    yield 13, 24, ACTUARY, edited(l24='row=30,400000,300000,300001,1000')
     yield 14, 114, ACTUARY, edited(l114='row=120,999999,0,0,1100')
     yield 15, 9, ACTUARY, edited(l9='row=15,0,0,0,999')
     yield 20, 115, PAYROLL, BAD

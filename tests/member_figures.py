@@ -21,6 +21,7 @@ import accuracy_found
 import commands
 from accuracy_found import TARGETS, named
 from accuracy_search import largest_salary
+from annuity_factors import any_rates, one_takes_all
 from oracle import (AB, AGES, CAREER, CD, CP, FIGURES, FINAL, FIRST, FLAT, FORMULAS, LAST, LIMIT, METHOD_NAMES, METHODS,
                     MILLION, MOST_ASSETS, MOST_BENEFIT, MOST_SALARY, S, Factors, Member, Plan, benefit, exact_benefit,
                     exact_costs, nearest, refusal, refusal_of_plan, rounded_costs, sharp_limit, short_table, stray, table)
@@ -28,7 +29,7 @@ from oracle import (AB, AGES, CAREER, CD, CP, FIGURES, FINAL, FIRST, FLAT, FORMU
 ROOT = Path(__file__).parent.parent
 CRATE = ROOT / 'crates' / 'member_figures'
 PROGRAM = ROOT / 'target' / 'bin' / 'member_figures'
-OF_PLAN = {10, 11, 12, 13, 14, 15}
+OF_PLAN = {10, 11, 12, 14, 15}
 REFUSALS = OF_PLAN | {21, 22, 23, 24, 25}
 
 
@@ -103,8 +104,9 @@ def worked_level():
 def worked_bounds(plan):
     for retire, number in ((49, 11), (50, 0), (75, 0), (76, 11)):
         yield Case(plan._replace(retire=retire), level_table(), Member(7, 40, 45, 0)), number or {}
-    for row, number in (((400000, 300000, 300000, 1100), 0), ((400000, 300000, 300001, 1100), 13)):
-        yield Case(plan, {**short_table(), 64: row}, Member(7, 63, 64, 0)), number or {}
+    for retire, answer in ((65, dict(benefit='50000.00', value='13363.59')), (64, dict(benefit='49000.00', value='75727.27'))):
+        crowded = {**short_table(), 64: (400000, 300000, 300001, 1100)}
+        yield Case(plan._replace(retire=retire, unit=100000), crowded, Member(7, FIRST, 64, 0)), answer
     yield Case(plan, {**short_table(), FIRST: (0, 0, 0, 999)}, Member(7, 63, 64, 0)), 15
     for service, answer in ((20, dict(benefit='1000000.00')), (21, 25)):
         final = plan._replace(formula=FINAL, unit=500, average=1)
@@ -128,7 +130,7 @@ def check_worked():
 
 
 def check_worked_parts():
-    """What is worked by hand beside the figures of a member: rules 14.3, 14.4, 14.7 and 14.17."""
+    """What is worked by hand beside the figures of a member: rules 14.3, 14.4, 14.7, 14.17, 14.19 and 14.20."""
     (plan, rows, member), _ = next(worked())
     ceiling = plan._replace(retire=60, formula=FINAL, unit=500, average=1), rows, Member(7, 30, 40, dollars('666666.67'))
     final = plan._replace(formula=FINAL, unit=200, average=2), rows, member._replace(salary=dollars('10000.00'))
@@ -141,18 +143,20 @@ def check_worked_parts():
         'B(64)': (benefit(*final, 64), dollars('181.82')),
         'B(65)': (benefit(*final, 65), dollars('381.82')),
         'B(60) before rounding': (exact_benefit(*ceiling, 60), Fraction('100000000.5')),
+        'P(64) of a crowded row': (staying(plan, 64, (400000, 300000, 300001)), 293999),
+        'P(65) of a crowded row': (staying(plan, 65, (400000, 300000, 300001)), 600000),
+        'P(64) of a row with two halves': (staying(plan, 64, (1000, 1000, 500)), 997502),
     }
     for name, (made, said) in parts.items():
         if made != said:
             sys.exit(f'member_figures: the rules say {name} is {said}, the oracle {made}')
 
 
+def staying(plan, age, rates):
+    return Factors(plan, {age: (*rates, 1000)}, nearest).P(age)
+
+
 # ---- drawn cases
-
-def split(rng, total):
-    a, b = sorted(rng.randint(0, total) for _ in range(2))
-    return a, b - a, total - b
-
 
 def drawn_rates(rng):
     """By age. Where hardly anyone leaves, roundings add up most; where all leave, nothing may be divided by staying."""
@@ -162,16 +166,16 @@ def drawn_rates(rng):
         return 0, 0, 0
 
     def tiny(k):
-        return split(rng, rng.randint(0, 300))
+        return any_rates(rng, 100)
 
     def light(k):
         return rng.randint(0, 2000), rng.randint(0, 60000), rng.randint(0, 3000)
 
     def heavy(k):
-        return split(rng, rng.randint(500000, MILLION))
+        return any_rates(rng)
 
     def gapped(k):
-        return split(rng, MILLION) if k in gaps else light(k)
+        return one_takes_all(rng) if k in gaps else light(k)
 
     return rng.choice([none, tiny, tiny, light, light, heavy, gapped])
 
@@ -271,7 +275,7 @@ def rows_at_edges(rows, k):
     for place in range(3):
         for rate in edges(0, MILLION, 2**32 - 1):
             yield (*rates[:place], rate, *rates[place + 1:], weight)
-    for three in (MILLION - 2, 1, 1), (MILLION - 2, 2, 1), (MILLION, 0, 1), (1, MILLION, 0), (MILLION - 1, 0, 0):
+    for three in (MILLION - 2, 2, 1), (MILLION, 1, 1), (1, MILLION, 1), (1, 1, MILLION), (MILLION,) * 3, (MILLION - 1, 0, 0):
         yield (*three, weight)
     before = rows[k - 1][3] if k > FIRST else 1000
     for weight in edges(1000, 100000, 2**32 - 1) + [before - 1, before]:

@@ -95,13 +95,10 @@ def refusals_of_head(plan):
 
 
 def refusal_of_row(rows, k):
-    """Of the row of age k, rules 3.2 to 3.5: the least number of those that it gives."""
+    """Of the row of age k, rules 3.2, 3.4 and 3.5: the least number of those that it gives."""
     death, withdrawal, disability, weight = rows[k]
-    rates = death, withdrawal, disability
-    if any(outside(rate, 0, MILLION, 11) for rate in rates):
+    if any(outside(rate, 0, MILLION, 11) for rate in (death, withdrawal, disability)):
         return 11
-    if sum(rates) > MILLION:
-        return 13
     if k == LAST and death != MILLION:
         return 14
     falling = k > FIRST and weight < rows[k - 1][3]
@@ -179,8 +176,12 @@ class Factors:
         return self.rows[k][3]
 
     def P(self, k):
+        """Rule 8.2, staying, of rates for one cause alone. It is in whole millionths whether the factors are exact or not."""
         death, withdrawal, disability, _ = self.rows[k]
-        return MILLION - (death + withdrawal + disability if k < self.r else death)
+        if k >= self.r:
+            return MILLION - death
+        able = nearest((MILLION - death) * (MILLION - disability), MILLION)
+        return nearest(able * (MILLION - withdrawal), MILLION)
 
     def step(self, k, factor):
         """Rule 8.3: the factor of age k+1 as it counts at age k."""

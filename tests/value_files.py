@@ -89,9 +89,10 @@ def worked_bounds(short, level):
     stands = b'total=0,0.00,0.00,0.00\n'
     for retire, said in ((49, b'refused=11,2\n'), (50, stands), (75, stands), (76, b'refused=11,2\n')):
         yield f'retire {retire}', file(heading(retire=retire), short, []), said
-    for rate, said in ((300000, stands), (300001, b'refused=13,24\n')):
-        row = 400000, 300000, rate, 1000
-        yield f'rates that sum to {sum(row[:3])}', file(heading(), {**short, 30: row}, []), said
+    for retire, said in ((65, b'member=7,50000.00,13363.59,'), (64, b'member=7,49000.00,75727.27,')):
+        crowded = {**short, 64: (400000, 300000, 300001, 1100)}
+        case = file(heading(retire=retire, unit=100000), crowded, [member(7, 15, 64)])
+        yield f'rates that sum to 1000001 at 64, retire {retire}', case, said
     yield 'weight 999', file(heading(), {**short, 15: (0, 0, 0, 999)}, []), b'refused=15,9\n'
     final = heading(formula='final', unit=500, average=1)
     for service, said in ((20, b'member=7,1000000.00,'), (21, b'refused=25,115\n')):

@@ -10,7 +10,8 @@ use lib.Seq.{getD-set-same, getD-set-other}
 use Rattle.annuity.specs.declared.Amount.{Amount}
 use Rattle.annuity.specs.declared.Amount.the-variants.{Nothing, One, Weight}
 use Rattle.rounding.specs.Nearest.{nearest}
-use Rattle.annuity.specs.Basis.{Basis, Fair, stays, staying, basis}
+use Rattle.annuity.specs.Rates.{stays}
+use Rattle.annuity.specs.Basis.{Basis, Fair, staying, basis}
 use Rattle.annuity.specs.Factors.{S, step, A, pension, G, T, Z}
 use Rattle.annuity.specs.Filled.{Filled, amountOf, factor}
 use Rattle.annuity.proofs.Carried.{carried-at, carried-before, carried-cong}

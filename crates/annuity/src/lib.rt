@@ -4,10 +4,12 @@
 // serves A, G, T and Z. An array has a place for each of the 106 ages; age k stands at place k - 15.
 // Each `requires` is what an accepted plan shows.
 ghost use mathlib.Core.Path.{_≡_};
-ghost use Prim.Native.Nat.{_+_, _*_, _≤_, _<_};
+ghost use Prim.Native.Nat.{_+_, _-_, _*_, _≤_, _<_};
 ghost use lib.ListN.{getD};
 ghost use Rattle.rounding.specs.Nearest.{nearest};
-ghost use Rattle.annuity.specs.Basis.{Sound, Table, basis, stays};
+ghost use Rattle.annuity.specs.Rates.{stays};
+ghost use Rattle.annuity.specs.Rates.{able as Rates·able};
+ghost use Rattle.annuity.specs.Basis.{Sound, Table, basis};
 ghost use Rattle.annuity.specs.Basis.{weight as Basis·weight};
 ghost use Rattle.annuity.specs.Factors.{A as Factors·A, pension as Factors·pension, G, T, Z, C};
 ghost use Rattle.annuity.specs.Factors.{S as Factors·S};
@@ -16,17 +18,39 @@ ghost use Rattle.annuity.specs.Filled.{Filled, amountOf, factor};
 // Rule 8.1: one, in billionths.
 pub const S: u64 = 1_000_000_000;
 
+// One rate alone, in millionths: of a million, how many it leaves.
+fn left_by(rate: u32) -> u64
+    requires { ⌜ rate ≤ 1000000 ⌝ }
+    ensures { λ n. ⌜ (n ≡ 1000000 - rate) × (n ≤ 1000000) ⌝ }
+{
+    1_000_000 - word(rate)
+}
+
+// What is left of a million by two causes, of which one alone leaves a and the other b.
+fn left_by_both(a: u64, b: u64) -> u64
+    requires { ⌜ (a ≤ 1000000) × (b ≤ 1000000) ⌝ }
+    ensures { λ n. ⌜ n ≡ nearest (a * b) 1000000 ⌝ }
+{
+    rounding::div_nearest(a * b, 1_000_000)
+}
+
+// Rule 8.2, a, by the row of an age: of a million, how many neither die nor are disabled.
+fn able(row: [u32; 4]) -> u64
+    requires { ⌜ Sound row ⌝ }
+    ensures { λ a. ⌜ (a ≡ Rates·able row) × (a ≤ 1000000) ⌝ }
+{
+    left_by_both(left_by(row[0]), left_by(row[2]))
+}
+
 // Rule 8.2, P(k), by the row of age k: of a million, how many stay the year.
 fn staying(row: [u32; 4], r: usize, k: usize) -> u64
     requires { ⌜ Sound row ⌝ }
     ensures { λ p. ⌜ p ≡ stays row r k ⌝ }
 {
-    let death = word(row[0]);
-    let others = word(row[1]) + word(row[2]);
     if k < r {
-        1_000_000 - (death + others)
+        left_by_both(able(row), left_by(row[1]))
     } else {
-        1_000_000 - death
+        left_by(row[0])
     }
 }
 

@@ -31,8 +31,4 @@ rowsOf-at numbers j lt =
 
 -- sound rows make a table
 pub sound-table : (rows : List (List ℕ)) → ((j : ℕ) → j < 106 → Sound (getD rows j [])) → Table rows
-sound-table rows sound =
-    record {
-      rates = λ k low high. sound (k - 15) (omega arith) .rates;
-      weights = λ k low high. sound (k - 15) (omega arith) .weight;
-    }
+sound-table rows sound k low high = sound (k - 15) (omega arith)

@@ -115,7 +115,7 @@ row-narrow age before d w i z e =
     let k = all-kept (rowRules age before (record { death = d; withdrawal = w; disability = i; weight = z })) e in
     let rates = kept (leb d 1000000 && (leb w 1000000 && leb i 1000000)) 10 (k .0) in
     let others = and-true-right (leb d 1000000) (leb w 1000000 && leb i 1000000) rates in
-    let scale = and-true-left (between 1000 100000 z) (leb before z) (kept (between 1000 100000 z && leb before z) 14 (k .1 .1 .1 .0)) in
+    let scale = and-true-left (between 1000 100000 z) (leb before z) (kept (between 1000 100000 z && leb before z) 14 (k .1 .1 .0)) in
     let hd : d ≤ 1000000 = leb-true _ _ (and-true-left (leb d 1000000) (leb w 1000000 && leb i 1000000) rates) in
     let hw : w ≤ 1000000 = leb-true _ _ (and-true-left (leb w 1000000) (leb i 1000000) others) in
     let hi : i ≤ 1000000 = leb-true _ _ (and-true-right (leb w 1000000) (leb i 1000000) others) in

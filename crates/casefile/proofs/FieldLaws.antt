@@ -1,7 +1,6 @@
 -- The fields before the first three commas, one after the other: `fᵢ` is a field's bytes, `rᵢ` what the code read there, and `t`, `u` what
 -- is left of the line.
-use Prim.Native.Nat.{ℕ, _<_}
-use native.Mathlib.Omega.{arith}
+use Prim.Native.Nat.{ℕ}
 use mathlib.Core.Path.{_≡_, sym}
 use mathlib.Core.List.{List}
 use Rattle.casefile.specs.declared.numbers.Number.{Number}
@@ -9,8 +8,7 @@ use Rattle.casefile.specs.declared.numbers.Number.the-variants.{Value, M
 use Rattle.casefile.specs.declared.numbers.Three.the-variants.{Found, NotThree}
 use Rattle.casefile.specs.Split.{uptoOf, pastOf}
 use Rattle.casefile.specs.Numbers.{wholeOf}
-use Rattle.casefile.specs.Fields.{threeMade, threeOf}
-use Rattle.casefile.proofs.Laws.{whole-small}
+use Rattle.casefile.specs.Fields.{threeOf}
 
 -- a field that was cut out and read
 field : (s : List ℕ) {f : List ℕ} {r x : Number} → f ≡ uptoOf 44 s → r ≡ wholeOf f → r ≡ x → wholeOf (uptoOf 44 s) ≡ x
@@ -34,16 +32,3 @@ module _ (s : List ℕ) {f₁ : List ℕ} {r₁ : Number} (cut₁ : f₁ ≡ upt
       pub three-found : {c : ℕ} → r₃ ≡ Value c → threeOf s ≡ Found a b c
       unfolding threeOf
       three-found e = simp (field s cut₁ read₁ is₁, sym past₁, field t cut₂ read₂ is₂, sym past₂, field u cut₃ read₃ e)
-
--- three numbers were three whole numbers
-three-made : (x y z : Number) {a b c : ℕ} → threeMade x y z ≡ Found a b c → (x ≡ Value a) × (y ≡ Value b) × (z ≡ Value c)
-three-made (Value a) (Value b) (Value c) e = ((cc), (cc), (cc))
-three-made (Value a) (Value b) Malformed e = let z : _≡_ {A = ℕ} 0 1 = cc in absurd (omega arith)
-three-made (Value a) Malformed z e = let z : _≡_ {A = ℕ} 0 1 = cc in absurd (omega arith)
-three-made Malformed y z e = let z : _≡_ {A = ℕ} 0 1 = cc in absurd (omega arith)
-
-pub three-small : (s : List ℕ) {a b c : ℕ} → threeOf s ≡ Found a b c → (a < 1000000000000) × (b < 1000000000000) × (c < 1000000000000)
-unfolding threeOf
-three-small s e =
-    let p = three-made (wholeOf (uptoOf 44 s)) (wholeOf (uptoOf 44 (pastOf 44 s))) (wholeOf (uptoOf 44 (pastOf 44 (pastOf 44 s)))) e in
-    (whole-small _ _ (p .0), whole-small _ _ (p .1), whole-small _ _ (p .2))

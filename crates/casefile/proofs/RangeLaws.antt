@@ -1,5 +1,5 @@
 -- The range rules, by the numbers that they give: 0 where a rule is kept, and else a number of ranges.
-use Prim.Native.Nat.{ℕ, zero, suc, _+_}
+use Prim.Native.Nat.{ℕ, zero, suc}
 use mathlib.Core.Path.{_≡_, refl}
 use mathlib.Core.List.{List, [], _∷_, _++_}
 use mathlib.Core.Bool.{Bool, true, false, cond, _&&_}
@@ -17,7 +17,7 @@ use Rattle.casefile.specs.Text.{bytes}
 use Rattle.casefile.specs.Split.{sameOf}
 use Rattle.casefile.specs.Heading.{formulaOf, methodOf, termOf, termRule}
 use Rattle.casefile.specs.Rows.{rowRule}
-use Rattle.casefile.specs.Answers.{RangeNumber, of-a-number, of-average, of-rates, of-death, of-weight, of-id, of-entry, of-age, of-salary, of-benefit}
+use Rattle.casefile.specs.Answers.{RangeNumber, of-a-number, of-average, of-death, of-weight, of-id, of-entry, of-age, of-salary, of-benefit}
 
 -- no refusal, or a range's
 abbrev pub Ranged : ℕ → Type 0
@@ -43,11 +43,8 @@ row-ranged age before d w i z =
     all-ranged (rowRules age before (record { death = d; withdrawal = w; disability = i; weight = z })) (
       rule-ranged (leb d 1000000 && (leb w 1000000 && leb i 1000000)) of-a-number,
       (
-        rule-ranged (leb (d + w + i) 1000000) of-rates,
-        (
-          rule-ranged (cond (eqb age 120) (eqb d 1000000) true) of-death,
-          (rule-ranged (between 1000 100000 z && leb before z) of-weight, tt),
-        ),
+        rule-ranged (cond (eqb age 120) (eqb d 1000000) true) of-death,
+        (rule-ranged (between 1000 100000 z && leb before z) of-weight, tt),
       ),
     )
 

@@ -2,44 +2,19 @@
 use Prim.Native.Nat.{ℕ, zero, suc, _+_, _-_, _≤_, _<_}
 use mathlib.Core.Path.{_≡_, refl, sym, ap, _∙_}
 use mathlib.Core.List.{List, [], _∷_}
-use mathlib.Core.Bool.{Bool, true, false, cond, _&&_}
-use lib.ListN.{length, drop, take, set}
+use mathlib.Core.Bool.{Bool, cond}
+use lib.ListN.{length, take, set}
 use native.Mathlib.Omega.{arith}
 use native.Mathlib.Numerals.{sub-one}
 use borrow.Author.Tests.{eq-eqb, ne-eqb}
-use Rattle.casefile.specs.declared.numbers.Number.{Number}
-use Rattle.casefile.specs.declared.numbers.Number.the-variants.{Value, Malformed}
-use Rattle.casefile.specs.declared.numbers.Three.{Three}
-use Rattle.casefile.specs.declared.numbers.Three.the-variants.{Found, NotThree}
 use Rattle.casefile.specs.declared.rows.RowForm.{RowForm}
 use Rattle.casefile.specs.declared.rows.RowForm.the-variants.{Rates, Wrong}
-use Rattle.casefile.specs.Text.{bytes}
-use Rattle.casefile.specs.Split.{seekOf, hasOf, uptoOf, pastOf, startsOf}
-use Rattle.casefile.specs.Numbers.{wholeOf}
-use Rattle.casefile.specs.Fields.{fourthOf, threeOf}
+use Rattle.casefile.specs.Split.{seekOf, hasOf, uptoOf, pastOf}
 use Rattle.casefile.specs.Outcome.{Outcome, values, refusal, prepend, settled}
-use Rattle.casefile.specs.Rows.{rowMade, ratesOf, isAge, rowOf, rowRule, afterRow, rowsOf}
+use Rattle.casefile.specs.Rows.{rowOf, rowRule, afterRow, rowsOf}
 use Rattle.casefile.specs.Stored.{narrowOf, each, in32}
 use Rattle.casefile.proofs.Laws.{has-none, has-line}
-use Rattle.casefile.proofs.FieldLaws.{three-small}
 use Rattle.casefile.proofs.OutcomeLaws.{stored-next}
-
--- ---- a row's rates are whole numbers
-row-made : (t : Three) (n : Number) {d w i z : ℕ} → rowMade t n ≡ Rates d w i z → t ≡ Found d w i
-row-made (Found a b c) (Value v) e = cc
-row-made (Found a b c) Malformed e = let z : _≡_ {A = ℕ} 0 1 = cc in absurd (omega arith)
-row-made NotThree n e = let z : _≡_ {A = ℕ} 0 1 = cc in absurd (omega arith)
-
-right : (b : Bool) (r : RowForm) {d w i z : ℕ} → cond b r Wrong ≡ Rates d w i z → r ≡ Rates d w i z
-right true r e = e
-right false r e = let z : _≡_ {A = ℕ} 0 1 = cc in absurd (omega arith)
-
-pub row-small : (age : ℕ) (s : List ℕ) {r : RowForm} {d w i z : ℕ} → r ≡ rowOf age s → r ≡ Rates d w i z → (d < 1000000000000) × (w < 1000000000000) × (i < 1000000000000)
-unfolding rowOf ratesOf
-row-small age s read e =
-    let t = pastOf 44 (drop 4 s) in
-    let test = startsOf (bytes "row=") s && isAge (wholeOf (uptoOf 44 (drop 4 s))) age in
-    three-small t (row-made (threeOf t) (wholeOf (fourthOf t)) (right test (rowMade (threeOf t) (wholeOf (fourthOf t))) (sym read ∙ e)))
 
 -- ---- the lines
 pub rows-end : (ranges : Bool) (n age before : ℕ) (s : List ℕ) → n ≤ 0 → in32 (rowsOf ranges n age before s) ≡ values []

@@ -21,12 +21,11 @@ pub data FormNumber : ℕ → Type 0 where
   member-form : FormNumber 20
   surplus : FormNumber 27
 
--- rule 12.3, the ten numbers of ranges: 11 to 15 in lines 1 to 114, 21 to 25 in a member's line. 26 is retired, and no rule uses
--- it again
+-- rule 12.3, the nine numbers of ranges: 11, 12, 14 and 15 in lines 1 to 114, 21 to 25 in a member's line. 13 and 26 are retired, and
+-- no rule uses them again
 pub data RangeNumber : ℕ → Type 0 where
   of-a-number : RangeNumber 11
   of-average : RangeNumber 12
-  of-rates : RangeNumber 13
   of-death : RangeNumber 14
   of-weight : RangeNumber 15
   of-id : RangeNumber 21

@@ -37,7 +37,7 @@ isAge Malformed age = false
 unfoldable pub rowOf : ℕ → List ℕ → RowForm
 rowOf age s = cond (startsOf (bytes "row=") s && isAge (wholeOf (uptoOf 44 (drop 4 s))) age) (ratesOf (pastOf 44 (drop 4 s))) Wrong
 
--- rules 3.2 to 3.5 of a row, its numbers as wide as they stand in the line; `before` is the weight of the age before, 0 where there is none
+-- rules 3.2, 3.4 and 3.5 of a row, its numbers as wide as they stand in the line; `before` is the weight of the age before, 0 where there is none
 abbrev pub rowRule : (age before death withdrawal disability weight : ℕ) → ℕ
 rowRule age before death withdrawal disability weight =
     firstOf (rowRules age before (record { death = death; withdrawal = withdrawal; disability = disability; weight = weight }))

@@ -15,7 +15,6 @@ use crate::text::upto;
 use plan::rules::Row;
 use plan::rules::row_rule;
 ghost use mathlib.Core.Path.{_≡_};
-ghost use Prim.Native.Nat.{_<_};
 ghost use Rattle.casefile.specs.Outcome.{settled};
 ghost use Rattle.casefile.specs.Rows.{ratesOf, rowOf, rowRule, rowsOf};
 ghost use Rattle.casefile.specs.Quick.{NextRowIs};
@@ -98,7 +97,6 @@ fn row_refusal(
     disability: u64,
     weight: u64,
 ) -> u64
-    requires { ⌜ (death < 1000000000000) × (withdrawal < 1000000000000) × (disability < 1000000000000) ⌝ }
     ensures { λ r. ⌜ r ≡ settled ranges (rowRule age before death withdrawal disability weight) ⌝ }
 {
     if ranges {

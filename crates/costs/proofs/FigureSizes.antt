@@ -119,7 +119,7 @@ module _ (p : Plan) (rows : List (List ℕ)) (m : Member) (accepted : AcceptedMe
       let some : 0 < T b y r = omega (arith, T-least b y r enters) in
       omega (arith, nearest-mono (top * G b y) (top * 71 * S) (T b y r) some (omega (arith, mul-le-mul {n₁ = top} {n₂ = top} (omega arith) (G-small y))), nearest-shrinks (top * 71) S (T b y r) some (T-least b y r enters), accepted .capped)
   cost-small CP k from to =
-      let heavy = f .table .weights k (omega (arith, accepted .placed .grown)) (omega (arith, f .head .retire .1)) in
+      let heavy = f .table k (omega (arith, accepted .placed .grown)) (omega (arith, f .head .retire .1)) .weight in
       let weighty = sound p rows m accepted .weighty in
       omega (arith, percent-small (B p rows m r) (G b y) (weight rows k) (Z b y r) (covers b y k to heavy weighty (G-small k) (k - y) y (omega arith) (omega arith)) heavy pay-least, accepted .capped)
 

@@ -1,4 +1,4 @@
--- What the figures of one member rest on, and what holds of each accepted one, by rules 2.3, 3.3, 3.5, 4.3, 7.8 and 7.9.
+-- What the figures of one member rest on, and what holds of each accepted one, by rules 2.3, 3.5, 4.3, 7.8, 7.9 and 8.2.
 use Prim.Native.Nat.{ℕ, _+_, _≤_, _<_}
 use Rattle.annuity.specs.Basis.{Basis, Fair}
 

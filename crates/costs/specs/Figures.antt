@@ -5,10 +5,12 @@ use mathlib.Core.List.{List, [], _∷_, _++_}
 use Prim.Native.Nat.{ℕ, _*_}
 use Rattle.rounding.specs.Nearest.{nearest}
 use Rattle.fractions.specs.Ratio.{Ratio, _over_, whole, _⊕_, _⊗_, inverse}
+use Rattle.annuity.specs.Worked.{Figure, _is_, all-are}
 use Rattle.annuity.specs.Recursion.{carried}
-use Rattle.annuity.specs.Basis.{stays, staying}
+use Rattle.annuity.specs.Rates.{able, serves, leaves, stays, rates}
+use Rattle.annuity.specs.Basis.{staying}
 use Rattle.annuity.specs.Factors.{S, step, A, pension, G, T, Z}
-use Rattle.annuity.specs.Figures.{short, Figure, _is_, all-are, factors}
+use Rattle.annuity.specs.Figures.{short, factors}
 use Rattle.plan.specs.declared.Plan.{Plan}
 use Rattle.plan.specs.declared.Member.{Member}
 use Rattle.plan.specs.declared.Formula.the-variants.{Final}
@@ -83,5 +85,5 @@ figures =
     ∷ []
 
 pub figures-are : all-are figures ≡ true
-unfolding figures factors short stays staying nearest carried step A pension G T Z _over_ whole _⊕_ _⊗_ inverse summed formulaOf pay pays exactBenefit B PV cost N L loneRefusal planRefusal headRules rowsRefusal rowRules memberRefusal fieldRules benefitRules
+unfolding figures factors rates short able serves leaves stays staying nearest carried step A pension G T Z _over_ whole _⊕_ _⊗_ inverse summed formulaOf pay pays exactBenefit B PV cost N L loneRefusal planRefusal headRules rowsRefusal rowRules memberRefusal fieldRules benefitRules
 figures-are = refl

@@ -10,7 +10,7 @@ use lib.ListN.{length}
 use Rattle.plan.specs.Acceptance.{loneRefusal}
 use Rattle.casefile.specs.Outcome.{Outcome, values, refusal, andThen}
 use Rattle.casefile.specs.Case.{reading, readingOf, acceptingOf}
-use Rattle.casefile.specs.Answers.{FormNumber, RangeNumber, too-long, cut, tail, count, plan-form, member-form, surplus, of-a-number, of-average, of-rates, of-death, of-weight, of-id, of-entry, of-age, of-salary, of-benefit}
+use Rattle.casefile.specs.Answers.{FormNumber, RangeNumber, too-long, cut, tail, count, plan-form, member-form, surplus, of-a-number, of-average, of-death, of-weight, of-id, of-entry, of-age, of-salary, of-benefit}
 use Rattle.casefile.proofs.Theorems.{reading-gives, accepting-refuses}
 use Rattle.costs.specs.declared.Figures.{Figures}
 use Rattle.costs.specs.declared.Valuation.the-variants.{Valued, Refused}
@@ -31,7 +31,6 @@ form-above surplus = omega arith
 range-above : {n : ℕ} → RangeNumber n → 0 < n
 range-above of-a-number = omega arith
 range-above of-average = omega arith
-range-above of-rates = omega arith
 range-above of-death = omega arith
 range-above of-weight = omega arith
 range-above of-id = omega arith

@@ -47,7 +47,7 @@ last-ages average years low high some =
 -- ---- sums of a table's weights
 module _ (rows : List (List ℕ)) (a b : ℕ) (low : 15 ≤ a) (le : a ≤ b) (high : b ≤ 120) where
   pub weights-most : Table rows → summed (weight rows) a (b - a) ≤ (b - a) * 100000
-  weights-most table = summed-most (weight rows) 100000 a (b - a) (λ j from to. table .weights j (omega arith) (omega arith))
+  weights-most table = summed-most (weight rows) 100000 a (b - a) (λ j from to. table j (omega arith) (omega arith) .weight)
 
   -- as differences of two sums from 15 on
   module _ (sums : List ℕ) (held : Sums rows sums) where
@@ -106,7 +106,7 @@ module _ (p : Plan) (rows : List (List ℕ)) (accepted : planRefusal p rows ≡ 
     now-some = weight-some (m .age) age-low age-high
 
     pub now-most : weight rows (m .age) ≤ 100000
-    now-most = facts .table .weights (m .age) age-low age-high
+    now-most = facts .table (m .age) age-low age-high .weight
 
     pub years-most : (k : ℕ) → k ≤ p .retire → k - m .entry ≤ 60
     years-most k h = omega (arith, placed .grown, facts .head .retire .1)

@@ -8,7 +8,8 @@ use native.Mathlib.Nat.{eq-or-lt-of-le}
 use native.Mathlib.Omega.{arith}
 use borrow.Author.Tests.{leb-true, ltb-true, eq-eqb, ne-eqb}
 use lib.Dec.{leb, ltb, eqb}
-use Rattle.annuity.specs.Basis.{death, withdrawal, disability, weight, Table}
+use Rattle.annuity.specs.Rates.{death, withdrawal, disability}
+use Rattle.annuity.specs.Basis.{row, weight, Sound, Table}
 use Rattle.plan.specs.declared.Plan.{Plan}
 use Rattle.plan.specs.declared.Member.{Member}
 use Rattle.plan.specs.Rules.{unless, firstOf, between}
@@ -90,19 +91,30 @@ head-facts p e =
 
 -- ---- the rows
 pub record RowFacts (rows : List (List ℕ)) (k : ℕ) : Type 0 where
-  pub sum : death rows k + withdrawal rows k + disability rows k ≤ 1000000
-  pub scale : (1000 ≤ weight rows k) × (weight rows k ≤ 100000)
+  pub sound : Sound (row rows k)
+  pub least : 1000 ≤ weight rows k
   pub climbs : weightBefore rows k ≤ weight rows k
 
 row-facts : (rows : List (List ℕ)) (k : ℕ) → firstOf (rowRules k (weightBefore rows k) (rowOf rows k)) ≡ 0 → RowFacts rows k
 unfolding rowRules
 row-facts rows k e =
     let rules = all-kept (rowRules k (weightBefore rows k) (rowOf rows k)) e in
+    let d = leb (death (row rows k)) 1000000 in
+    let w = leb (withdrawal (row rows k)) 1000000 in
+    let i = leb (disability (row rows k)) 1000000 in
+    let rates = both-true d (w && i) (kept (d && (w && i)) 10 (rules .0)) in
+    let others = both-true w i (rates .1) in
     let climbs = leb (weightBefore rows k) (weight rows k) in
-    let both = both-true (between 1000 100000 (weight rows k)) climbs (kept (between 1000 100000 (weight rows k) && climbs) 14 (rules .1 .1 .1 .0)) in
+    let both = both-true (between 1000 100000 (weight rows k)) climbs (kept (between 1000 100000 (weight rows k) && climbs) 14 (rules .1 .1 .0)) in
+    let scale = between-true 1000 100000 (weight rows k) (both .0) in
     record {
-      sum = leb-true _ _ (kept (leb (death rows k + withdrawal rows k + disability rows k) 1000000) 12 (rules .1 .0));
-      scale = between-true 1000 100000 (weight rows k) (both .0);
+      sound = record {
+        dying = leb-true _ _ (rates .0);
+        withdrawing = leb-true _ _ (others .0);
+        disabled = leb-true _ _ (others .1);
+        weight = scale .1;
+      };
+      least = scale .0;
       climbs = leb-true (weightBefore rows k) (weight rows k) (both .1);
     }
 
@@ -129,11 +141,8 @@ plan-facts p rows e =
     let each = rows-facts rows 106 15 (both .1 .0) in
     record {
       head = head-facts p (both .0);
-      table = record {
-        rates = λ k low high. each k low (omega arith) .sum;
-        weights = λ k low high. each k low (omega arith) .scale .1;
-      };
-      least = λ k low high. each k low (omega arith) .scale .0;
+      table = λ k low high. each k low (omega arith) .sound;
+      least = λ k low high. each k low (omega arith) .least;
       climbs = λ k low high. rw (← (weight-passed rows k (omega arith) low)) at (each (k + 1) (omega arith) (omega arith) .climbs);
     }
 

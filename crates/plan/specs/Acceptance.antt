@@ -1,7 +1,7 @@
 -- Accepting a plan, its rows and a member handed in as plain values: rule 5.3, the range rules in the order of the lines. Cents for money, millionths for rates.
 use mathlib.Core.Bool.{true, cond, _&&_}
 use mathlib.Core.List.{List, [], _∷_, _++_}
-use Prim.Native.Nat.{ℕ, zero, suc, _+_, _-_, _≤_, _<_}
+use Prim.Native.Nat.{ℕ, zero, suc, _-_, _≤_, _<_}
 use mathlib.Core.Path.{_≡_}
 use lib.ListN.{length, getD}
 use lib.Dec.{leb, ltb, eqb}
@@ -60,11 +60,10 @@ headRules p =
     ∷ []
 
 -- ---- a row, RULES section 3: its age, the weight of the age before (0 where there is none), and its four numbers
--- rules 3.2 to 3.5: each rate, their sum, death at 120, and the weight
+-- rules 3.2, 3.4 and 3.5: each rate, death at 120, and the weight
 unfoldable pub rowRules : (k before : ℕ) → Row → List ℕ
 rowRules k before row =
     unless (leb (row .death) 1000000 && (leb (row .withdrawal) 1000000 && leb (row .disability) 1000000)) 11
-    ∷ unless (leb (row .death + row .withdrawal + row .disability) 1000000) 13
     ∷ unless (cond (eqb k 120) (eqb (row .death) 1000000) true) 14
     ∷ unless (between 1000 100000 (row .weight) && leb before (row .weight)) 15
     ∷ []

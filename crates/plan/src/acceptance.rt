@@ -38,7 +38,7 @@ pub fn head_refusal(p: Plan) -> u64
     or_else(interest_rule(p.interest), retire)
 }
 
-// The table, rules 3.2 to 3.5.
+// The table, rules 3.2, 3.4 and 3.5.
 pub fn rows_refusal(rows: [[u32; 4]; 106]) -> u64
     ensures { λ r. ⌜ r ≡ rowsRefusal rows 15 106 ⌝ }
 {

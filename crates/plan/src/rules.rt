@@ -1,7 +1,6 @@
 // The range rules of single lines. A rule answers its refusal number, or 0 where it is kept.
 ghost use mathlib.Core.Path.{_≡_};
 ghost use mathlib.Core.Bool.{_&&_, cond, true};
-ghost use Prim.Native.Nat.{_+_, _^_, _<_};
 ghost use lib.Dec.{eqb, leb};
 ghost use Rattle.plan.specs.Rules.{firstOf};
 ghost use Rattle.plan.specs.Rules.{unless as Rules·unless, between as Rules·between};
@@ -104,7 +103,7 @@ pub struct Row {
 
 // A row of the table, rule 3.1.
 pub fn row_of(row: [u32; 4]) -> Row
-    ensures { λ r. ⌜ (r ≡ rowNumbers row) × (r .death < 2 ^ 32) × (r .withdrawal < 2 ^ 32) × (r .disability < 2 ^ 32) ⌝ }
+    ensures { λ r. ⌜ r ≡ rowNumbers row ⌝ }
 {
     let death = wide(row[0]);
     let withdrawal = wide(row[1]);
@@ -119,20 +118,18 @@ pub fn row_of(row: [u32; 4]) -> Row
 }
 
 pub fn wide(x: u32) -> u64
-    ensures { λ r. ⌜ (r ≡ x) × (r < 2 ^ 32) ⌝ }
+    ensures { λ r. ⌜ r ≡ x ⌝ }
 {
     x as u64
 }
 
-// Rules 3.2 to 3.5 of the row of age k, where the age before has the weight `before`.
+// Rules 3.2, 3.4 and 3.5 of the row of age k, where the age before has the weight `before`.
 pub fn row_rule(k: usize, before: u64, row: Row) -> u64
-    requires { ⌜ (row .death < 2 ^ 40) × (row .withdrawal < 2 ^ 40) × (row .disability < 2 ^ 40) ⌝ }
     ensures { λ r. ⌜ r ≡ firstOf (rowRules k before row) ⌝ }
 {
     let weight = or_else(weight_rule(before, row.weight), 0);
     let last = or_else(last_age_rule(k, row.death), weight);
-    let sum = or_else(sum_rule(row.death, row.withdrawal, row.disability), last);
-    or_else(rates_rule(row.death, row.withdrawal, row.disability), sum)
+    or_else(rates_rule(row.death, row.withdrawal, row.disability), last)
 }
 
 fn rates_rule(death: u64, withdrawal: u64, disability: u64) -> u64
@@ -140,13 +137,6 @@ fn rates_rule(death: u64, withdrawal: u64, disability: u64) -> u64
 {
     let others = both(withdrawal <= 1_000_000, disability <= 1_000_000);
     unless(both(death <= 1_000_000, others), 11)
-}
-
-fn sum_rule(death: u64, withdrawal: u64, disability: u64) -> u64
-    requires { ⌜ (death < 2 ^ 40) × (withdrawal < 2 ^ 40) × (disability < 2 ^ 40) ⌝ }
-    ensures { λ r. ⌜ r ≡ Rules·unless (leb (death + withdrawal + disability) 1000000) 13 ⌝ }
-{
-    unless(death + withdrawal + disability <= 1_000_000, 13)
 }
 
 // Rule 3.4: nobody lives past 120.

@@ -5,10 +5,12 @@ use mathlib.Core.List.{List, [], _∷_, _++_}
 use lib.IntN.{pos, natAbs, _+ℤ_}
 use Rattle.rounding.specs.Nearest.{nearest, nearestℤ}
 use Rattle.fractions.specs.Ratio.{_over_, whole, _⊕_, _⊗_, inverse}
+use Rattle.annuity.specs.Worked.{Figure, _is_, all-are}
 use Rattle.annuity.specs.Recursion.{carried}
-use Rattle.annuity.specs.Basis.{stays, staying}
+use Rattle.annuity.specs.Rates.{able, serves, leaves, stays, rates}
+use Rattle.annuity.specs.Basis.{staying}
 use Rattle.annuity.specs.Factors.{step, A, pension, G, T, Z, C}
-use Rattle.annuity.specs.Figures.{short, Figure, _is_, all-are, factors}
+use Rattle.annuity.specs.Figures.{short, factors}
 use Rattle.plan.specs.declared.Plan.{Plan}
 use Rattle.plan.specs.Weights.{summed}
 use Rattle.plan.specs.Benefit.{formulaOf, pay, pays, exactBenefit, B}
@@ -37,10 +39,10 @@ proved-set =
     ∷ []
 
 pub proved-set-stands : all-are proved-set ≡ true
-unfolding proved-set total unfunded supplemental member-figures factors short stays staying nearest nearestℤ carried step A pension G T Z C _over_ whole _⊕_ _⊗_ inverse summed formulaOf pay pays exactBenefit B PV cost N L loneRefusal planRefusal headRules rowsRefusal rowRules memberRefusal fieldRules benefitRules
+unfolding proved-set total unfunded supplemental member-figures factors rates short able serves leaves stays staying nearest nearestℤ carried step A pension G T Z C _over_ whole _⊕_ _⊗_ inverse summed formulaOf pay pays exactBenefit B PV cost N L loneRefusal planRefusal headRules rowsRefusal rowRules memberRefusal fieldRules benefitRules
 proved-set-stands = refl
 
 -- rule 14.2: the short case, as it is printed
 pub short-lines : printed short-plan short (short-member ∷ []) ≡ bytes "member=7,200.00,181.82,86.58,95.24\ntotal=1,181.82,86.58,95.24\nunfunded=75.24\nsupplemental=39.41\n"
-unfolding printed memberLines memberLine planLines totalLine figuresLine amountsLine signedLine fields signedAmount amount wholeText width digits total unfunded supplemental figures figuresAt methodOf formulaOf exactBenefit B PV cost N L short stays staying nearest nearestℤ carried step A pension G T C _over_ whole
+unfolding printed memberLines memberLine planLines totalLine figuresLine amountsLine signedLine fields signedAmount amount wholeText width digits total unfunded supplemental figures figuresAt methodOf formulaOf exactBenefit B PV cost N L short able serves stays staying nearest nearestℤ carried step A pension G T C _over_ whole
 short-lines = refl

@@ -7,7 +7,7 @@ use lib.ListN.{getD}
 use Rattle.annuity.specs.Basis.{basis, Sound}
 use Rattle.annuity.specs.Factors.{step}
 use Rattle.annuity.specs.Filled.{Filled, amountOf, factor}
-use Rattle.annuity.proofs.Bases.{basis-fair, table-sound}
+use Rattle.annuity.proofs.Bases.{basis-fair}
 use Rattle.annuity.proofs.Filling.{filled-first, filled-more, factor-top, factor-before, factor-most, year-by-row}
 use Rattle.annuity.proofs.fill.Statement.{statement}
 use Rattle.annuity.proofs.fill.Tie as tie
@@ -57,7 +57,7 @@ sound c =
     let s = c .before .before .before in
     let k : ℕ = c .before .before .loop .j - 1 + 15 in
     let place : k - 15 ≡ c .before .before .loop .j - 1 = omega arith in
-    rw place at (table-sound (s .args .t1) (s .pre .0) k (omega arith) (omega arith))
+    rw place at (s .pre .0 k (omega arith) (omega arith))
 
 amount-of-requires : tie.Need-amount-of-requires Inv-loop μ-loop
 amount-of-requires c κs = sound c
@@ -87,7 +87,7 @@ add-a : tie.Need-add-a Inv-loop μ-loop
 add-a c =
     let s = c .before .before .before .before .before in
     let g = s .args in
-    omega (arith, stored c, factor-most (basis (g .t1) (g .r) (g .i)) (basis-fair (g .t1) (g .r) (g .i)) (g .amount) (g .top) (g .start) (c .before .before .before .before .loop .j - 1 + 15) (s .pre .3) (omega arith) (s .pre .4) (s .pre .0 .weights))
+    omega (arith, stored c, factor-most (basis (g .t1) (g .r) (g .i)) (basis-fair (g .t1) (g .r) (g .i)) (g .amount) (g .top) (g .start) (c .before .before .before .before .loop .j - 1 + 15) (s .pre .3) (omega arith) (s .pre .4) (λ k low high. s .pre .0 k low high .weight))
 
 mul-a-2 : tie.Need-mul-a-2 Inv-loop μ-loop
 mul-a-2 c = omega arith

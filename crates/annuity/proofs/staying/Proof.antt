@@ -1,66 +1,54 @@
 -- `annuity::staying` meets its contract.
 use borrow.Author.Needs.{needs}
 use borrow.Author.Tests.{lt-ltb, le-ltb}
+use mathlib.Core.Path.{_≡_, _∙_}
+use Prim.Native.Nat.{_-_, _*_}
 use native.Mathlib.Omega.{arith}
-use Rattle.annuity.specs.Basis.{stays}
+use Rattle.rounding.specs.Nearest.{nearest}
+use Rattle.annuity.specs.Rates.{withdrawal, serves, stays}
 use Rattle.annuity.proofs.staying.Statement.{statement}
 use Rattle.annuity.proofs.staying.Tie as tie
 
-array-read-word : tie.Need-array-read-word
-array-read-word c = search needs
+able-requires : tie.Need-able-requires
+able-requires c κs = search needs
 
-word-requires : tie.Need-word-requires
-word-requires c κs = search needs
+array-read-left-by : tie.Need-array-read-left-by
+array-read-left-by c = search needs
 
-array-read-word-2 : tie.Need-array-read-word-2
-array-read-word-2 c = search needs
+left-by-requires : tie.Need-left-by-requires
+left-by-requires c κs = search needs
 
-word-requires-2 : tie.Need-word-requires-2
-word-requires-2 c κs = search needs
+left-by-both-requires : tie.Need-left-by-both-requires
+left-by-both-requires c κs = search needs
 
-array-read-word-3 : tie.Need-array-read-word-3
-array-read-word-3 c = search needs
+array-read-left-by-2 : tie.Need-array-read-left-by-2
+array-read-left-by-2 c = search needs
 
-word-requires-3 : tie.Need-word-requires-3
-word-requires-3 c κs = search needs
-
-add-others : tie.Need-add-others
-add-others c = search needs
-
-add-result : tie.Need-add-result
-add-result c = search needs
-
-sub-result : tie.Need-sub-result
-sub-result c = search needs
-
-sub-result-2 : tie.Need-sub-result-2
-sub-result-2 c = search needs
+left-by-requires-2 : tie.Need-left-by-requires-2
+left-by-requires-2 c κs = search needs
 
 returns : tie.Need-returns
-unfolding stays
+unfolding serves stays
 returns c =
     let a = c .before .before .before .before .args in
-    simp (lt-ltb (a .k) (a .r) (omega arith)) (omega arith)
+    let remaining : c .before .left-by .result ≡ 1000000 - withdrawal (a .t1) = omega (arith, c .before .left-by .ensures .0) in
+    simp (lt-ltb (a .k) (a .r) (omega arith)) (c .left-by-both .ensures ∙ (λ i. nearest (c .before .before .able .ensures .0 i * remaining i) 1000000))
 
 returns-2 : tie.Need-returns-2
 unfolding stays
 returns-2 c =
-    let a = c .before .before .before .before .args in
-    simp (le-ltb (a .k) (a .r) (omega arith)) (omega arith)
+    let a = c .before .before .args in
+    simp (le-ltb (a .k) (a .r) (omega arith)) (c .left-by2 .ensures .0)
 
 pub staying-spec : {M : Type 1} → statement M
 staying-spec =
     tie.close
     (tie.spec
-    array-read-word
-    word-requires
-    array-read-word-2
-    word-requires-2
-    array-read-word-3
-    word-requires-3
-    add-others
-    add-result
-    sub-result
-    sub-result-2
+    able-requires
+    array-read-left-by
+    left-by-requires
+    left-by-both-requires
+    array-read-left-by-2
+    left-by-requires-2
     returns
     returns-2)

@@ -5,7 +5,7 @@ use Prim.Native.Nat.{ℕ, _+_, _*_, _≤_}
 use native.Mathlib.Omega.{arith}
 use Rattle.rounding.specs.Nearest.{nearest}
 use Rattle.annuity.proofs.YearStep.{step-shrinks}
-use Rattle.annuity.proofs.Bases.{stays-most}
+use Rattle.annuity.proofs.Rates.{stays-most}
 use Rattle.annuity.proofs.step.Statement.{statement}
 use Rattle.annuity.proofs.step.Tie as tie
 

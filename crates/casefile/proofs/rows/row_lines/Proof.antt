@@ -8,7 +8,7 @@ use Rattle.casefile.specs.Outcome.{prepend}
 use Rattle.casefile.specs.Rows.{rowsOf}
 use Rattle.casefile.specs.Stored.{in32}
 use Rattle.casefile.proofs.OutcomeLaws.{prepend-nil, refused-after, stored-all}
-use Rattle.casefile.proofs.RowLaws.{row-small, rows-end, rows-cut, rows-wrong, rows-refused, rows-stored}
+use Rattle.casefile.proofs.RowLaws.{rows-end, rows-cut, rows-wrong, rows-refused, rows-stored}
 use Rattle.casefile.proofs.QuickLaws.{is-row, is-row-cut}
 use Rattle.casefile.proofs.rows.row_lines.Statement.{statement}
 use Rattle.casefile.proofs.rows.row_lines.Tie as tie
@@ -44,7 +44,7 @@ enum-known-form-2 : tie.Need-enum-known-form-2 Inv-loop μ-loop
 enum-known-form-2 c = search needs
 
 row-refusal-requires : tie.Need-row-refusal-requires Inv-loop μ-loop
-row-refusal-requires c κs = row-small _ _ (is-row (c .before .before .before .before .form .given .1) (c .before .before .before .before .before .before .next-row .ensures) .read) (c .before .form2 .given .1)
+row-refusal-requires c κs = search needs
 
 returns-2 : tie.Need-returns-2 Inv-loop μ-loop
 returns-2 c =

@@ -33,7 +33,7 @@ mul-mul-div-nearest-requires c κs =
     let some = Z-least (planBasis (a .p) (a .rows .now)) (a .m .entry) (a .p .retire) (s .pre .0 .accepted .placed .enters) in
     let W = weight (a .rows .now) in
     rw (c .before .before .before .present-value .ensures, c .weight .ensures, c .before .before .pay-from-entry .ensures)
-    (percent-fits (PV (caseOf (a .p) (a .rows .now) (a .m)) (a .m .entry)) (W (a .k)) (Z (planBasis (a .p) (a .rows .now)) (a .m .entry) (a .p .retire)) value (f .table .weights (a .k) (ages .0) (ages .1))
+    (percent-fits (PV (caseOf (a .p) (a .rows .now) (a .m)) (a .m .entry)) (W (a .k)) (Z (planBasis (a .p) (a .rows .now)) (a .m .entry) (a .p .retire)) value (f .table (a .k) (ages .0) (ages .1) .weight)
     (omega (arith, some, mul-le-mul-right S (f .least (a .m .entry) (s .pre .0 .accepted .placed .grown) (omega (arith, ages .1, s .pre .1))))))
 
 returns : tie.Need-returns

@@ -33,15 +33,13 @@ row-of-requires : tie.Need-row-of-requires Inv-loop μ-loop
 row-of-requires c κs = search needs
 
 row-rule-requires : tie.Need-row-rule-requires Inv-loop μ-loop
-row-rule-requires c κs =
-    let e = c .row-of .ensures in
-    (omega (arith, e .1), omega (arith, e .2), omega (arith, e .3))
+row-rule-requires c κs = search needs
 
 -- the row of age k is judged by the definition's rules
 judged : (c : tie.After-row-rule Inv-loop μ-loop) → let l = c .before .before .before .before .loop in let rows = c .before .before .before .before .before .args .t1 in c .row-rule .result ≡ firstOf (rowRules (l .k) (weightBefore rows (l .k)) (rowOf rows (l .k)))
 judged c =
     let l = c .before .before .before .before .loop in
-    c .row-rule .ensures ∙ (λ i. firstOf (rowRules (l .k) (l .inv .2 i) (c .before .row-of .ensures .0 i)))
+    c .row-rule .ensures ∙ (λ i. firstOf (rowRules (l .k) (l .inv .2 i) (c .before .row-of .ensures i)))
 
 returns : tie.Need-returns Inv-loop μ-loop
 returns c =
@@ -59,7 +57,7 @@ loop-again : tie.Need-loop-again Inv-loop μ-loop
 loop-again c =
     let l = c .before .before .before .before .before .loop in
     let rows = c .before .before .before .before .before .before .args .t1 in
-    let row = c .before .before .row-of .ensures .0 in
+    let row = c .before .before .row-of .ensures in
     (omega arith, omega arith, ap (λ (x : Row). x .weight) row ∙ weight-passed rows (l .k) (omega arith) (omega arith), l .inv .3 ∙ rows-passed rows (l .k) (omega arith) (sym (judged (c .before)) ∙ c .if1 .left))
 
 returns-2 : tie.Need-returns-2 Inv-loop μ-loop

@@ -49,13 +49,13 @@ stored c =
     let next : l .j + 16 - 15 ≡ l .j + 1 = omega arith in
     let age : 15 + l .j - 15 ≡ l .j = omega arith in
     let before = rw here at (l .inv .1 .each (l .j + 15) (omega arith) (omega arith)) in
-    rw next ((λ i. before i + c .wide .ensures .0 i) ∙ sym (summed-more W 15 (l .j) ∙ rw age))
+    rw next ((λ i. before i + c .wide .ensures i) ∙ sym (summed-more W 15 (l .j) ∙ rw age))
 
 add-sums : tie.Need-add-sums Inv-loop μ-loop
 add-sums c =
     let s = c .before .before .before .before in
     let l = c .before .before .before .loop in
-    omega (arith, stored c, summed-most (weight (s .args .t1)) 100000 15 (l .j + 16 - 15) (λ k from to. s .pre .weights k from (omega arith)))
+    omega (arith, stored c, summed-most (weight (s .args .t1)) 100000 15 (l .j + 16 - 15) (λ k from to. s .pre k from (omega arith) .weight))
 
 add-sums-2 : tie.Need-add-sums-2 Inv-loop μ-loop
 add-sums-2 c = omega arith

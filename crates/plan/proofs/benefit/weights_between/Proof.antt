@@ -47,14 +47,14 @@ added c =
     let a = c .before .before .before .before .args in
     let more : l .k + 1 - a .a ≡ l .k - a .a + 1 = omega (arith, l .inv .0) in
     let here : a .a + (l .k - a .a) ≡ l .k = omega (arith, l .inv .0) in
-    rw more ((λ i. l .inv .2 i + c .wide .ensures .0 i) ∙ sym (summed-more (weight (a .rows .now)) (a .a) (l .k - a .a) ∙ rw here))
+    rw more ((λ i. l .inv .2 i + c .wide .ensures i) ∙ sym (summed-more (weight (a .rows .now)) (a .a) (l .k - a .a) ∙ rw here))
 
 add-sum : tie.Need-add-sum Inv-loop μ-loop
 add-sum c =
     let l = c .before .before .before .loop in
     let s = c .before .before .before .before in
     let years : l .k + 1 - s .args .a ≤ 120 = omega (arith, c .before .before .loop-test .taken, s .pre .3) in
-    omega (arith, added c, years, summed-most (weight (s .args .rows .now)) 100000 (s .args .a) (l .k + 1 - s .args .a) (λ j from to. s .pre .0 .weights j (omega (arith, s .pre .1)) (omega (arith, s .pre .3, l .inv .0, c .before .before .loop-test .taken))))
+    omega (arith, added c, years, summed-most (weight (s .args .rows .now)) 100000 (s .args .a) (l .k + 1 - s .args .a) (λ j from to. s .pre .0 j (omega (arith, s .pre .1)) (omega (arith, s .pre .3, l .inv .0, c .before .before .loop-test .taken)) .weight))
 
 add-k : tie.Need-add-k Inv-loop μ-loop
 add-k c = omega (arith, c .before .before .before .before .pre .3)

@@ -29,10 +29,12 @@ wide-requires-4 c κs = search needs
 
 returns : tie.Need-returns
 returns c =
-    let one = c .before .before .before .wide .ensures in
-    let two = c .before .before .wide2 .ensures in
-    let three = c .before .wide3 .ensures in
-    ((λ i. record { death = one .0 i; withdrawal = two .0 i; disability = three .0 i; weight = c .wide4 .ensures .0 i }), one .1, two .1, three .1)
+    λ i. record {
+      death = c .before .before .before .wide .ensures i;
+      withdrawal = c .before .before .wide2 .ensures i;
+      disability = c .before .wide3 .ensures i;
+      weight = c .wide4 .ensures i;
+    }
 
 pub row-of-spec : {M : Type 1} → statement M
 row-of-spec =

@@ -18,22 +18,16 @@ last-age-rule-requires c κs = search needs
 or-else-requires-2 : tie.Need-or-else-requires-2
 or-else-requires-2 c κs = search needs
 
-sum-rule-requires : tie.Need-sum-rule-requires
-sum-rule-requires c κs = search needs
+rates-rule-requires : tie.Need-rates-rule-requires
+rates-rule-requires c κs = search needs
 
 or-else-requires-3 : tie.Need-or-else-requires-3
 or-else-requires-3 c κs = search needs
 
-rates-rule-requires : tie.Need-rates-rule-requires
-rates-rule-requires c κs = search needs
-
-or-else-requires-4 : tie.Need-or-else-requires-4
-or-else-requires-4 c κs = search needs
-
 returns : tie.Need-returns
 unfolding rowRules
 returns c =
-    in-order (c .or-else4 .ensures) (c .before .rates-rule .ensures) (in-order (c .before .before .or-else3 .ensures) (c .before .before .before .sum-rule .ensures) (in-order (c .before .before .before .before .or-else2 .ensures) (c .before .before .before .before .before .last-age-rule .ensures) (in-order (c .before .before .before .before .before .before .or-else .ensures) (c .before .before .before .before .before .before .before .weight-rule .ensures) refl)))
+    in-order (c .or-else3 .ensures) (c .before .rates-rule .ensures) (in-order (c .before .before .or-else2 .ensures) (c .before .before .before .last-age-rule .ensures) (in-order (c .before .before .before .before .or-else .ensures) (c .before .before .before .before .before .weight-rule .ensures) refl))
 
 pub row-rule-spec : {M : Type 1} → statement M
 row-rule-spec =
@@ -43,8 +37,6 @@ row-rule-spec =
     or-else-requires
     last-age-rule-requires
     or-else-requires-2
-    sum-rule-requires
-    or-else-requires-3
     rates-rule-requires
-    or-else-requires-4
+    or-else-requires-3
     returns)
