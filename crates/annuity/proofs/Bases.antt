@@ -3,12 +3,12 @@ use mathlib.Core.List.{List}
 use Prim.Native.Nat.{ℕ}
 use native.Mathlib.Omega.{arith}
 use Rattle.annuity.specs.Basis.{Fair, staying, basis, certain}
-use Rattle.annuity.proofs.Rates.{stays-most}
+use Rattle.annuity.proofs.Rates.{leaving-and-staying}
 
 -- whatever the rows hold
 pub basis-fair : (rows : List (List ℕ)) (r i : ℕ) → Fair (basis rows r i)
 unfolding staying
-basis-fair rows r i = record { stays = λ k. stays-most _ r k }
+basis-fair rows r i = record { stays = λ k. leaving-and-staying .staying-most _ r k }
 
 pub certain-fair : (i : ℕ) → Fair (certain i)
 certain-fair i = record { stays = λ k. omega arith }

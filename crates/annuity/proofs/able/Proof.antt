@@ -5,7 +5,7 @@ use Prim.Native.Nat.{_-_, _*_}
 use native.Mathlib.Omega.{arith}
 use Rattle.rounding.specs.Nearest.{nearest}
 use Rattle.annuity.specs.Rates.{death, disability, able}
-use Rattle.annuity.proofs.Rates.{able-most}
+use Rattle.annuity.proofs.Rates.{leaving-and-staying}
 use Rattle.annuity.proofs.able.Statement.{statement}
 use Rattle.annuity.proofs.able.Tie as tie
 
@@ -31,7 +31,7 @@ returns c =
     let alive : c .before .before .left-by .result ≡ 1000000 - death row = omega (arith, c .before .before .left-by .ensures .0) in
     let fit : c .before .left-by2 .result ≡ 1000000 - disability row = omega (arith, c .before .left-by2 .ensures .0) in
     let is : c .left-by-both .result ≡ able row = c .left-by-both .ensures ∙ (λ i. nearest (alive i * fit i) 1000000) in
-    (is, omega (arith, is, able-most row))
+    (is, omega (arith, is, leaving-and-staying .able-most row))
 
 pub able-spec : {M : Type 1} → statement M
 able-spec =

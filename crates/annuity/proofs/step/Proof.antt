@@ -5,7 +5,7 @@ use Prim.Native.Nat.{ℕ, _+_, _*_, _≤_}
 use native.Mathlib.Omega.{arith}
 use Rattle.rounding.specs.Nearest.{nearest}
 use Rattle.annuity.proofs.YearStep.{step-shrinks}
-use Rattle.annuity.proofs.Rates.{stays-most}
+use Rattle.annuity.proofs.Rates.{leaving-and-staying}
 use Rattle.annuity.proofs.step.Statement.{statement}
 use Rattle.annuity.proofs.step.Tie as tie
 
@@ -21,7 +21,7 @@ mul-mul-div-nearest c = search needs
 mul-div-nearest-requires : tie.Need-mul-div-nearest-requires
 mul-div-nearest-requires c κs =
     let a = c .before .args in
-    let p : c .staying .result ≤ 100 * (10000 + a .i) = omega (arith, stays-most (a .row) (a .r) (a .k)) in
+    let p : c .staying .result ≤ 100 * (10000 + a .i) = omega (arith, leaving-and-staying .staying-most (a .row) (a .r) (a .k)) in
     omega (arith, step-shrinks (a .f) (c .staying .result) (100 * (10000 + a .i)) (omega arith) p)
 
 returns : tie.Need-returns
