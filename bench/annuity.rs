@@ -5,7 +5,8 @@
 //!
 //! The same on both sides: a cleared array of 106 places, the year steps from the top age down to 15, and what is
 //! handed out. What differs: Rattle's fill gets the rows by value, 1,696 bytes a call, and what is paid each year as a
-//! code; Rust's gets a reference, and is compiled for each amount. A year step rounds as bench/rounding says.
+//! code; Rust's gets a reference, and is compiled for each amount. A year step rounds as bench/rounding says; the two
+//! roundings of staying divide a word by a constant, on both sides.
 mod factors;
 
 use factors::{AGES, Factors};
@@ -85,7 +86,7 @@ mod rust {
     }
 
     fn is_sound(row: &Row) -> bool {
-        row[0] as u64 + row[1] as u64 + row[2] as u64 <= 1_000_000 && row[3] <= 100_000
+        row[..3].iter().all(|&rate| rate <= 1_000_000) && row[3] <= 100_000
     }
 }
 

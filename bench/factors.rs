@@ -29,11 +29,11 @@ fn step(row: &Row, works: bool, i: u64, f: u64) -> u64 {
 }
 
 fn staying(row: &Row, works: bool) -> u64 {
-    let [survive, remain, able] = [row[0], row[1], row[2]].map(|rate| 1_000_000 - rate as u64);
+    let [alive, remaining, fit] = [row[0], row[1], row[2]].map(|rate| 1_000_000 - rate as u64);
     if !works {
-        return survive;
+        return alive;
     }
-    nearest_word(nearest_word(survive * able, 1_000_000) * remain, 1_000_000)
+    nearest_word(nearest_word(alive * fit, 1_000_000) * remaining, 1_000_000)
 }
 
 pub fn nearest(n: u128, d: u128) -> u128 {

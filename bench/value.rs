@@ -13,7 +13,7 @@
 //!   V(x) anew for each N and L that rests on it; Rust works each once. At x = r Rattle leaves N out, which Rust works
 //!   and drops;
 //! - in Rattle the rows go by value, 1,696 bytes, to the functions that document 01 wants so; and each side rounds as in
-//!   bench/rounding.
+//!   bench/rounding, but for the two roundings of staying, which divide a word by a constant on both.
 mod factors;
 mod files;
 mod reader;
@@ -246,11 +246,12 @@ fn drawn(random: &mut Random) -> Vec<u8> {
     let method = METHODS[random.below(5)];
     let heading = heading(random.below(2_020), retire, &terms, method, random.below(9_000_000), 1 + random.below(40));
     let seed = random.below(1 << 40);
+    let [withdrawal, disability] = if seed % 2 == 0 { [seed % 60_011, seed % 9_001] } else { [seed % 999_983, seed % 999_979] };
     let rows = |age: usize| {
         let weight = 1_000 + (1 + seed % 801) * (age - 15);
         match age {
             120 => format!("row=120,1000000,0,0,{weight}\n"),
-            _ => format!("row={age},{},{},{},{weight}\n", age * age * age / 4, seed % 60_011, seed % 9_001),
+            _ => format!("row={age},{},{withdrawal},{disability},{weight}\n", age * age * age / 4),
         }
     };
     let members = |j: usize| {

@@ -67,8 +67,8 @@ uint64_t kuyeshan_refusal_line(uint64_t number, uint64_t line, uint8_t *out, siz
  *   plan      interest and, but for formula flat, unit in basis points; money in cents:
  *             interest, retire, formula (1 flat, 2 career, 3 final), unit, average,
  *             method (1 AB, 2 BD, 3 BP, 4 CD, 5 CP), assets, years
- *   rows      for each age from 15 to 120 in turn: death, withdrawal and disability in millionths, each as if no other
- *             cause were at work, and the weight
+ *   rows      for each age from 15 to 120 in turn: death, withdrawal and disability in millionths, each the rate of its
+ *             cause alone, and the weight
  *   member    id, entry age, age, salary in cents a year
  *   figures   in whole cents, halfway to the even cent (rule 6.1): the yearly benefit, its present value, the
  *             normal cost, the liability

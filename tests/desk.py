@@ -29,7 +29,7 @@ EXAMPLES = ROOT / 'examples'
 TABLE = ROOT / 'bin' / 'refusals.tsv'
 # What the rules list. No file gives 30, since the program's buffer holds all outputs.
 RULES = ACCEPTING | {30}
-# What they listed once. It stands in no list again, and the command doesn't take it for an answer.
+# What they listed once. These stand in no list again, and the command doesn't take one for an answer.
 RETIRED = {13, 26}
 SENDER, ACTUARY, PAYROLL = 'the sender of the file', 'the plan actuary', 'the payroll office'
 CR = 'the line ends in CR, byte 13; save the file with line ends LF'

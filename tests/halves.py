@@ -3,8 +3,8 @@
     python3 tests/halves.py --write    searches, and stores what it finds in tests/halves.tsv
     python3 tests/halves.py --check    holds the compiled programs to the stored ones
 
-There are two for each place in which something is rounded: one with an even number below the half, which is where it goes,
-and one with an odd number below, from which it goes up. The places are a year step of each factor, the benefit, V, the N
+There are two for each place in which something is rounded, but for the two of staying (tests/staying.py): one with an even
+number below the half, which is where it goes, and one with an odd number below, from which it goes up. They are a year step of each factor, the benefit, V, the N
 and the L of each method, and the supplemental payment, below 0 and above. Where a half must go is worked here from the
 quotient itself, and the whole answer of the program by tests/oracle.py.
 """

@@ -36,7 +36,9 @@ def model_rates(age):
     """The book's own rates, each for one cause alone, as it prints them: with four or five places, so whole millionths. From
     65 on it prints no termination and no disability."""
     causes = (MORTALITY, TERMINATION, DISABILITY) if age < RETIRE else (MORTALITY, {age: '0'}, {age: '0'})
-    return tuple(int(within(printed, age) * MILLION) for printed in causes)
+    rates = [within(printed, age) * MILLION for printed in causes]
+    assert all(rate.denominator == 1 for rate in rates)
+    return tuple(map(int, rates))
 
 
 def model_weight(age):

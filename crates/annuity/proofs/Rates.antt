@@ -26,7 +26,7 @@ pub leaving-and-staying : Leaving-And-Staying
 unfolding leaves stays
 leaving-and-staying =
     record {
-      together = λ row r k h. simp (lt-ltb k r h) (omega (arith, serves-able row));
+      together = λ row r k h. simp (lt-ltb k r (omega (arith, h))) (omega (arith, serves-able row));
       leaving-most = λ row. omega arith;
       able-most = λ row. omega (arith, able-most row);
       staying-most = λ row r k. cond-le (ltb k r) _ _ 1000000 (omega (arith, serves-able row, able-most row)) (omega arith);

@@ -11,11 +11,12 @@ use Rattle.annuity.specs.Rates.{able, serves, leaves, stays, crowded, ra
 use Rattle.annuity.specs.Basis.{Basis, staying, basis}
 use Rattle.annuity.specs.Factors.{step, A, pension, G, T}
 
--- rule 14.1, the short table, with a row of its own for age 64: nobody dies before that and all do at 65; the weight is 1000, and
--- 1100 from 65 on
-abbrev shortWith : List ℕ → List (List ℕ)
+-- the short table of rule 14.1 but for the row of age 64: nobody dies before that, and all do at 65; the weight is 1000, and 1100 from
+-- 65 on
+abbrev pub shortWith : List ℕ → List (List ℕ)
 shortWith row = replicate 49 (0 ∷ 0 ∷ 0 ∷ 1000 ∷ []) ++ (row ∷ replicate 56 (1000000 ∷ 0 ∷ 0 ∷ 1100 ∷ []))
 
+-- rule 14.1, the short table: at 64 nobody dies, and the weight is 1100
 unfoldable pub short : List (List ℕ)
 short = shortWith (0 ∷ 0 ∷ 0 ∷ 1100 ∷ [])
 

@@ -30,11 +30,12 @@ serves row = nearest (able row * (1000000 - withdrawal row)) 1000000
 unfoldable pub leaves : List ℕ → ℕ
 leaves row = able row - serves row
 
--- rule 8.2, staying at age k, by its row: below r what the three causes leave, from r on a million less death
+-- rule 8.2, staying at age k, by its row: below r those whom none of the three causes takes, from r on a million less death
 unfoldable pub stays : List ℕ → ℕ → ℕ → ℕ
 stays row r k = cond (ltb k r) (serves row) (1000000 - death row)
 
--- rules 8.2 and 8.10, whatever the row holds: below r leaving and staying are a together; a is a million at most, and so is staying
+-- rules 8.2 and 8.10, whatever the row holds: below r leaving and staying are a together; leaving is a at most, and a and staying are
+-- each a million at most
 pub record Leaving-And-Staying : Type 0 where
   pub together : (row : List ℕ) (r k : ℕ) → k < r → leaves row + stays row r k ≡ able row
   pub leaving-most : (row : List ℕ) → leaves row ≤ able row
@@ -48,14 +49,17 @@ crowded = 400000 ∷ 300000 ∷ 300001 ∷ 1100 ∷ []
 abbrev halved : List ℕ
 halved = 1000 ∷ 1000 ∷ 500 ∷ 1100 ∷ []
 
--- a, staying at 64 and at 65 where r is 65, and leaving, of both. They stand with the definitions, so that a wrong one is refused here
+-- a, staying at 64 and at 65 where r is 65, and leaving, of both; and that the two of rule 14.20 lie at a half. They stand with the
+-- definitions, so that a wrong one is refused here
 unfoldable pub rates : List Figure
 rates =
     (able crowded is 419999)
     ∷ (stays crowded 65 64 is 293999)
     ∷ (stays crowded 65 65 is 600000)
     ∷ (leaves crowded is 126000)
+    ∷ (2 * ((1000000 - death halved) * (1000000 - disability halved)) is 1997001 * 1000000)
     ∷ (able halved is 998500)
+    ∷ (2 * (able halved * (1000000 - withdrawal halved)) is 1995003 * 1000000)
     ∷ (stays halved 65 64 is 997502)
     ∷ (stays halved 65 65 is 999000)
     ∷ (leaves halved is 998)

@@ -1,5 +1,5 @@
-// The annuity factors, RULES section 8: the year step, and A, G, T, Z and C in billionths.
-// specs/Factors.antt has the factors, rounded and exact, in the rules' letters; specs/Accuracy.antt how far apart the
+// The annuity factors, RULES section 8: staying, the year step, and A, G, T, Z and C in billionths.
+// specs/Rates.antt has staying, from a row's rates; specs/Factors.antt has the factors, rounded and exact, in the rules' letters; specs/Accuracy.antt how far apart the
 // two lie. Here they are worked: the rows go by value to the step functions, and one fill, downward from the last age,
 // serves A, G, T and Z. An array has a place for each of the 106 ages; age k stands at place k - 15.
 // Each `requires` is what an accepted plan shows.
@@ -18,7 +18,7 @@ ghost use Rattle.annuity.specs.Filled.{Filled, amountOf, factor};
 // Rule 8.1: one, in billionths.
 pub const S: u64 = 1_000_000_000;
 
-// One rate alone, in millionths: of a million, how many it leaves.
+// One rate alone, in millionths: of a million, how many are left.
 fn left_by(rate: u32) -> u64
     requires { ⌜ rate ≤ 1000000 ⌝ }
     ensures { λ n. ⌜ (n ≡ 1000000 - rate) × (n ≤ 1000000) ⌝ }
@@ -26,7 +26,7 @@ fn left_by(rate: u32) -> u64
     1_000_000 - word(rate)
 }
 
-// What is left of a million by two causes, of which one alone leaves a and the other b.
+// Of a million, how many are left by two causes: by the one alone a, and by the other alone b.
 fn left_by_both(a: u64, b: u64) -> u64
     requires { ⌜ (a ≤ 1000000) × (b ≤ 1000000) ⌝ }
     ensures { λ n. ⌜ n ≡ nearest (a * b) 1000000 ⌝ }

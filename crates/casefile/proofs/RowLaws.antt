@@ -16,7 +16,6 @@ use Rattle.casefile.specs.Stored.{narrowOf, each, in32}
 use Rattle.casefile.proofs.Laws.{has-none, has-line}
 use Rattle.casefile.proofs.OutcomeLaws.{stored-next}
 
--- ---- the lines
 pub rows-end : (ranges : Bool) (n age before : ℕ) (s : List ℕ) → n ≤ 0 → in32 (rowsOf ranges n age before s) ≡ values []
 unfolding rowsOf
 rows-end ranges zero age before s h = refl

@@ -1,4 +1,4 @@
--- RULES section 14, figures worked by hand: those with a P as far as they concern factors, benefits, V, N and L, computed from the definitions as one list. Cents. Beside a benefit or a figure that lies at a half stands that it does; refusal 0 says that the plan and the member are accepted.
+-- RULES section 14, figures worked by hand: those with a P as far as they concern rates, factors, benefits, V, N and L, computed from the definitions as one list. Cents. Beside a benefit or a figure that lies at a half stands that it does; refusal 0 says that the plan and the member are accepted.
 use mathlib.Core.Path.{_≡_, refl}
 use mathlib.Core.Bool.{true}
 use mathlib.Core.List.{List, [], _∷_, _++_}
@@ -7,10 +7,10 @@ use Rattle.rounding.specs.Nearest.{nearest}
 use Rattle.fractions.specs.Ratio.{Ratio, _over_, whole, _⊕_, _⊗_, inverse}
 use Rattle.annuity.specs.Worked.{Figure, _is_, all-are}
 use Rattle.annuity.specs.Recursion.{carried}
-use Rattle.annuity.specs.Rates.{able, serves, leaves, stays, rates}
+use Rattle.annuity.specs.Rates.{able, serves, leaves, stays, crowded, rates}
 use Rattle.annuity.specs.Basis.{staying}
 use Rattle.annuity.specs.Factors.{S, step, A, pension, G, T, Z}
-use Rattle.annuity.specs.Figures.{short, factors}
+use Rattle.annuity.specs.Figures.{short, shortWith, factors}
 use Rattle.plan.specs.declared.Plan.{Plan}
 use Rattle.plan.specs.declared.Member.{Member}
 use Rattle.plan.specs.declared.Formula.the-variants.{Final}
@@ -55,7 +55,8 @@ ceiling-benefit = exactBenefit ceiling-plan short (ceiling-member 66666667) Fina
 unfoldable pub figures : List Figure
 figures =
     factors
-    ++ (N short-case AB 64 is 9091)
+    ++ (planRefusal short-plan (shortWith crowded) is 0)
+    ∷ (N short-case AB 64 is 9091)
     ∷ (L short-case AB 64 is 9091)
     ∷ (N short-case BD 64 is 9091)
     ∷ (L short-case BD 64 is 9091)

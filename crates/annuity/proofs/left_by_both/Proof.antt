@@ -12,7 +12,7 @@ div-nearest-requires : tie.Need-div-nearest-requires
 div-nearest-requires c κs = search needs
 
 returns : tie.Need-returns
-returns c = search needs
+returns c = c .div-nearest .ensures
 
 pub left-by-both-spec : {M : Type 1} → statement M
 left-by-both-spec = tie.close (tie.spec mul-div-nearest div-nearest-requires returns)
