@@ -1,8 +1,8 @@
 // The annuity factors, RULES section 8: staying, the year step, and A, G, T, Z and C in billionths.
-// specs/Rates.antt has staying, from a row's rates; specs/Factors.antt has the factors, rounded and exact, in the rules' letters; specs/Accuracy.antt how far apart the
-// two lie. Here they are worked: the rows go by value to the step functions, and one fill, downward from the last age,
-// serves A, G, T and Z. An array has a place for each of the 106 ages; age k stands at place k - 15.
-// Each `requires` is what an accepted plan shows.
+// specs/Rates.antt has staying, from a row's rates; specs/Factors.antt the factors, rounded and exact, in the rules'
+// letters; specs/Accuracy.antt how far apart the two lie. Here they are worked: the rows go by value to the step
+// functions, and one fill, downward from the last age, serves A, G, T and Z. An array has a place for each of the 106
+// ages; age k stands at place k - 15. Each `requires` is what an accepted plan shows.
 ghost use mathlib.Core.Path.{_≡_};
 ghost use Prim.Native.Nat.{_+_, _-_, _*_, _≤_, _<_};
 ghost use lib.ListN.{getD};
@@ -21,7 +21,7 @@ pub const S: u64 = 1_000_000_000;
 // One rate alone, in millionths: of a million, how many are left.
 fn left_by(rate: u32) -> u64
     requires { ⌜ rate ≤ 1000000 ⌝ }
-    ensures { λ n. ⌜ (n ≡ 1000000 - rate) × (n ≤ 1000000) ⌝ }
+    ensures { λ n. ⌜ n ≡ 1000000 - rate ⌝ }
 {
     1_000_000 - word(rate)
 }
@@ -37,7 +37,7 @@ fn left_by_both(a: u64, b: u64) -> u64
 // Rule 8.2, a, by the row of an age: of a million, how many neither die nor are disabled.
 fn able(row: [u32; 4]) -> u64
     requires { ⌜ Sound row ⌝ }
-    ensures { λ a. ⌜ (a ≡ Rates·able row) × (a ≤ 1000000) ⌝ }
+    ensures { λ a. ⌜ a ≡ Rates·able row ⌝ }
 {
     left_by_both(left_by(row[0]), left_by(row[2]))
 }

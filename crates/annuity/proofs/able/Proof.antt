@@ -5,7 +5,6 @@ use Prim.Native.Nat.{_-_, _*_}
 use native.Mathlib.Omega.{arith}
 use Rattle.rounding.specs.Nearest.{nearest}
 use Rattle.annuity.specs.Rates.{death, disability, able}
-use Rattle.annuity.proofs.Rates.{leaving-and-staying}
 use Rattle.annuity.proofs.able.Statement.{statement}
 use Rattle.annuity.proofs.able.Tie as tie
 
@@ -22,16 +21,15 @@ left-by-requires-2 : tie.Need-left-by-requires-2
 left-by-requires-2 c κs = search needs
 
 left-by-both-requires : tie.Need-left-by-both-requires
-left-by-both-requires c κs = search needs
+left-by-both-requires c κs = (omega (arith, c .before .left-by .ensures), omega (arith, c .left-by2 .ensures))
 
 returns : tie.Need-returns
 unfolding able
 returns c =
     let row = c .before .before .before .args .t1 in
-    let alive : c .before .before .left-by .result ≡ 1000000 - death row = omega (arith, c .before .before .left-by .ensures .0) in
-    let fit : c .before .left-by2 .result ≡ 1000000 - disability row = omega (arith, c .before .left-by2 .ensures .0) in
-    let is : c .left-by-both .result ≡ able row = c .left-by-both .ensures ∙ (λ i. nearest (alive i * fit i) 1000000) in
-    (is, omega (arith, is, leaving-and-staying .able-most row))
+    let alive : c .before .before .left-by .result ≡ 1000000 - death row = omega (arith, c .before .before .left-by .ensures) in
+    let fit : c .before .left-by2 .result ≡ 1000000 - disability row = omega (arith, c .before .left-by2 .ensures) in
+    c .left-by-both .ensures ∙ (λ i. nearest (alive i * fit i) 1000000)
 
 pub able-spec : {M : Type 1} → statement M
 able-spec =

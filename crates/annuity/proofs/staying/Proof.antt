@@ -6,6 +6,7 @@ use Prim.Native.Nat.{_-_, _*_}
 use native.Mathlib.Omega.{arith}
 use Rattle.rounding.specs.Nearest.{nearest}
 use Rattle.annuity.specs.Rates.{withdrawal, serves, stays}
+use Rattle.annuity.proofs.Rates.{leaving-and-staying}
 use Rattle.annuity.proofs.staying.Statement.{statement}
 use Rattle.annuity.proofs.staying.Tie as tie
 
@@ -19,7 +20,8 @@ left-by-requires : tie.Need-left-by-requires
 left-by-requires c κs = search needs
 
 left-by-both-requires : tie.Need-left-by-both-requires
-left-by-both-requires c κs = search needs
+left-by-both-requires c κs =
+    (omega (arith, c .before .able .ensures, leaving-and-staying .able-most (c .before .before .before .args .t1)), omega (arith, c .left-by .ensures))
 
 array-read-left-by-2 : tie.Need-array-read-left-by-2
 array-read-left-by-2 c = search needs
@@ -31,14 +33,14 @@ returns : tie.Need-returns
 unfolding serves stays
 returns c =
     let a = c .before .before .before .before .args in
-    let remaining : c .before .left-by .result ≡ 1000000 - withdrawal (a .t1) = omega (arith, c .before .left-by .ensures .0) in
-    simp (lt-ltb (a .k) (a .r) (omega arith)) (c .left-by-both .ensures ∙ (λ i. nearest (c .before .before .able .ensures .0 i * remaining i) 1000000))
+    let remaining : c .before .left-by .result ≡ 1000000 - withdrawal (a .t1) = omega (arith, c .before .left-by .ensures) in
+    simp (lt-ltb (a .k) (a .r) (omega arith)) (c .left-by-both .ensures ∙ (λ i. nearest (c .before .before .able .ensures i * remaining i) 1000000))
 
 returns-2 : tie.Need-returns-2
 unfolding stays
 returns-2 c =
     let a = c .before .before .args in
-    simp (le-ltb (a .k) (a .r) (omega arith)) (c .left-by2 .ensures .0)
+    simp (le-ltb (a .k) (a .r) (omega arith)) (c .left-by2 .ensures)
 
 pub staying-spec : {M : Type 1} → statement M
 staying-spec =
