@@ -1,0 +1,7 @@
+-- The laws of fields, from single bytes up to a line.
+pub mod SplitLaws
+pub mod FieldLaws
+pub mod LineLaws
+pub mod AmountLaws
+pub mod ValueLaws
+pub mod KeyLaws

@@ -1,0 +1,10 @@
+-- `fields::lines::unread` meets its contract.
+use borrow.Author.Needs.{needs}
+use Rattle.fields.proofs.SplitLaws.{cut-off, not-cut}
+use Rattle.fields.proofs.lines.unread.Statement.{statement}
+use Rattle.fields.proofs.lines.unread.Tie as tie
+
+pub unread-spec : {M : Type 1} → statement M
+unread-spec =
+    tie.close
+    (tie.spec (λ c κs. search needs) (λ c. not-cut _ (c .before .seek .ensures) (c .if1 .taken)) (λ c. cut-off _ (c .before .seek .ensures) (c .if1 .left)))

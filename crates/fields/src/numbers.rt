@@ -1,0 +1,91 @@
+// Numbers, rules 1.3 to 1.6, each read in one pass up to the byte that ends it, so that no tail is dropped.
+ghost use mathlib.Core.Path.{_≡_};
+ghost use Prim.Native.Nat.{_<_};
+ghost use Rattle.fields.specs.Numbers.{wholeOf, amountOf};
+ghost use Rattle.fields.specs.Values.{fieldOf, lastOf};
+
+// A number, and the place of the byte that ends it; or none.
+pub enum Field {
+    Is(u64, usize),
+    NotField,
+}
+
+// Rule 1.3: the whole number from place i up to the first byte b, which is no digit. A place instead of a slice, and the
+// test of 12 digits inside the loop: in this shape LLVM inlines it.
+pub(crate) fn field_at(s: &[u8], i: usize, b: u8) -> Field
+    requires { ⌜ b < 48 ⌝ }
+    ensures { λ r. ⌜ r ≡ fieldOf wholeOf b i (now (s .entry)) ⌝ }
+{
+    let mut n: u64 = 0;
+    let mut j = i;
+    while j < s.len() {
+        let c = s[j];
+        if c < 48 {
+            if c != b {
+                return Field::NotField;
+            }
+            if j == i {
+                return Field::NotField;
+            }
+            if i + 1 < j {
+                if s[i] == 48 {
+                    return Field::NotField;
+                }
+            }
+            return Field::Is(n, j);
+        }
+        if 57 < c {
+            return Field::NotField;
+        }
+        if i + 12 <= j {
+            return Field::NotField;
+        }
+        n = n * 10 + (c as u64 - 48);
+        j += 1;
+    }
+    Field::NotField
+}
+
+// Rule 1.4: the amount from place i up to the first byte 10, in cents.
+fn amount_at(s: &[u8], i: usize) -> Field
+    ensures { λ r. ⌜ r ≡ fieldOf amountOf 10 i (now (s .entry)) ⌝ }
+{
+    let Field::Is(dollars, p) = field_at(s, i, 46) else {
+        return Field::NotField;
+    };
+    if s.len() - p < 4 {
+        return Field::NotField;
+    }
+    let a = s[p + 1];
+    let b = s[p + 2];
+    if a < 48 {
+        return Field::NotField;
+    }
+    if 57 < a {
+        return Field::NotField;
+    }
+    if b < 48 {
+        return Field::NotField;
+    }
+    if 57 < b {
+        return Field::NotField;
+    }
+    if s[p + 3] != 10 {
+        return Field::NotField;
+    }
+    Field::Is(
+        dollars * 100 + (a as u64 - 48) * 10 + (b as u64 - 48),
+        p + 3,
+    )
+}
+
+// The last value of a line.
+pub(crate) fn last_at(s: &[u8], i: usize, amount: bool) -> Field
+    ensures { λ r. ⌜ r ≡ fieldOf (lastOf amount) 10 i (now (s .entry)) ⌝ }
+{
+    if amount {
+        amount_at(s, i)
+    } else {
+        field_at(s, i, 10)
+    }
+}
