@@ -30,6 +30,11 @@ pub all-kept : (rules : List ℕ) → firstOf rules ≡ 0 → All-kept rules
 all-kept [] e = tt
 all-kept (a ∷ later) e = let h = passed a (firstOf later) e in (h .0, all-kept later (h .1))
 
+-- and where each is kept, nothing is refused
+pub kept-all : (rules : List ℕ) → All-kept rules → firstOf rules ≡ 0
+kept-all [] k = refl
+kept-all (a ∷ rules) k = rw (k .0) (kept-all rules (k .1))
+
 -- two lists of rules, one after the other
 pub refusal-of-both : (rules others : List ℕ) → firstOf (rules ++ others) ≡ cond (eqb (firstOf rules) 0) (firstOf others) (firstOf rules)
 refusal-of-both [] others = refl

@@ -1,0 +1,181 @@
+-- A file is accepted exactly when its form is right and its values keep every rule.
+use Prim.Native.Nat.{ℕ, zero, suc, _+_, _-_, _≤_, _<_}
+use mathlib.Core.Path.{_≡_, refl, sym, ap, subst, _∙_}
+use mathlib.Core.List.{List, [], _∷_, _++_, append-assoc, append-nil}
+use mathlib.Core.Bool.{Bool, true, false, cond}
+use mathlib.Core.Logic.{_↔_}
+use lib.ListN.{length, getD, take, length-append, List·getD-append}
+use lib.Seq.{getD-at}
+use lib.Dec.{eqb, ltb}
+use native.Mathlib.Omega.{arith}
+use native.Mathlib.Nat.{add-zero}
+use Rattle.plan.specs.declared.Member.{Member}
+use Rattle.plan.specs.Rules.{firstOf}
+use Rattle.plan.specs.Acceptance.{TermRule, termRules, termRule, termsOf, judged, headRules, rowRules, rowNumbers, rowOf as rowIn, weightBefore, rowsRefusal, planRefusal}
+use Rattle.plan.proofs.Facts.{All-kept, all-kept, kept-all}
+use Rattle.walk.specs.Outcome.{Outcome, values, refusal}
+use Rattle.walk.specs.Terms.{termForms, termRefusal, planOf}
+use Rattle.walk.specs.Lines.{dueAge, rowRefusal}
+use Rattle.walk.specs.Step.{Head, State, heading, table, people, ended, lastId, personRefusal}
+use Rattle.walk.specs.Walk.{Case, linesOf, restOf, caseOf, closed, folded, start, walkFrom, walkOf}
+use Rattle.walk.specs.Kept.{EachAfter, Each, Kept, nobody, idBefore, AcceptedCase}
+use Rattle.walk.specs.Answers.{AcceptedKeepsRules, AcceptsWhatKeepsRules}
+use Rattle.walk.proofs.OutcomeLaws.{no-values, values-one, then-values}
+use Rattle.walk.proofs.FoldLaws.{folded-keeps, accepted-kept, kept-accepted}
+use Rattle.walk.proofs.StepLaws.{Sized, line-sized, line-kept}
+use Rattle.walk.proofs.Theorems.{start-sized}
+
+both : (a b : ℕ) → (firstOf (a ∷ b ∷ []) ≡ 0) ↔ ((a ≡ 0) × (b ≡ 0))
+both a b =
+    ((λ e. let k = all-kept (a ∷ b ∷ []) e in (k .0, k .1 .0)), (λ k. kept-all (a ∷ b ∷ []) (k .0, (k .1, tt))))
+
+-- ---- the heading: its terms one by one, and the list of its rules
+each-judged : (rules : List TermRule) (before t : List ℕ) → ((j : ℕ) → termRule (length before + j) ≡ getD rules j (λ b v. 0)) → length t ≤ length rules → EachAfter termRefusal before t ↔ All-kept (judged rules before t)
+each-judged [] before [] same fits = ((λ k. tt), (λ k. tt))
+each-judged [] before (v ∷ t) same fits = absurd (omega arith)
+each-judged (rule ∷ rules) before [] same fits = ((λ k. tt), (λ k. tt))
+each-judged (rule ∷ rules) before (v ∷ t) same fits =
+    let long = length-append before (v ∷ []) in
+    let next : (j : ℕ) → termRule (length (before ++ v ∷ []) + j) ≡ getD rules j (λ b v. 0) = λ j. let place : length (before ++ v ∷ []) + j ≡ length before + suc j = omega (arith, long) in ap termRule place ∙ same (suc j) in
+    let later = each-judged rules (before ++ v ∷ []) t next (omega arith) in
+    let here : termRefusal before v ≡ rule before v = ap (λ (r : TermRule). r before v) (sym (ap termRule (add-zero (length before))) ∙ same 0) in
+    ((λ k. (sym here ∙ k .0, later .0 (k .1))), (λ k. (here ∙ k .0, later .1 (k .1))))
+
+terms-back : (t : List ℕ) → length t ≡ length termForms → termsOf (planOf t) ≡ t
+unfolding termForms
+terms-back [] n = absurd (omega arith)
+terms-back (a ∷ []) n = absurd (omega arith)
+terms-back (a ∷ b ∷ []) n = absurd (omega arith)
+terms-back (a ∷ b ∷ c ∷ []) n = absurd (omega arith)
+terms-back (a ∷ b ∷ c ∷ d ∷ []) n = absurd (omega arith)
+terms-back (a ∷ b ∷ c ∷ d ∷ e ∷ []) n = absurd (omega arith)
+terms-back (a ∷ b ∷ c ∷ d ∷ e ∷ f ∷ []) n = absurd (omega arith)
+terms-back (a ∷ b ∷ c ∷ d ∷ e ∷ f ∷ g ∷ []) n = absurd (omega arith)
+terms-back (a ∷ b ∷ c ∷ d ∷ e ∷ f ∷ g ∷ h ∷ []) n = refl
+terms-back (a ∷ b ∷ c ∷ d ∷ e ∷ f ∷ g ∷ h ∷ i ∷ t) n = absurd (omega arith)
+
+head-kept : (t : List ℕ) → length t ≡ length termForms → Each termRefusal t ↔ (firstOf (headRules (planOf t)) ≡ 0)
+unfolding termForms headRules
+head-kept t n =
+    let k = each-judged termRules [] t (λ j. let place : 0 + j ≡ j = omega arith in ap termRule place) (omega arith) in
+    subst (λ (u : List ℕ). Each termRefusal t ↔ (firstOf (judged termRules [] u) ≡ 0)) (sym (terms-back t n)) ((λ e. kept-all (judged termRules [] t) (k .0 e)), (λ e. k .1 (all-kept (judged termRules [] t) e)))
+
+-- ---- the rows
+weight-same : (before l : List (List ℕ)) → weightBefore (before ++ l) (dueAge before) ≡ weightBefore before (dueAge before)
+weight-same [] l = refl
+weight-same (r ∷ before) l =
+    let place : suc (length before) + 15 - 1 - 15 ≡ length before = omega arith in
+    simp place (ap (λ (row : List ℕ). cond (ltb 15 (suc (length before) + 15)) (getD row 3 0) 0) (List·getD-append (r ∷ before) l [] (length before) (omega arith)))
+
+rows-kept : (before l : List (List ℕ)) → EachAfter rowRefusal before l ↔ (rowsRefusal (before ++ l) (dueAge before) (length l) ≡ 0)
+unfolding rowsRefusal
+rows-kept before [] = ((λ k. refl), (λ e. tt))
+rows-kept before (r ∷ l) =
+    let all = before ++ r ∷ l in
+    let age = dueAge before in
+    let place : length before ≡ age - 15 = omega arith in
+    let there : getD all (age - 15) [] ≡ r = getD-at before r l [] (age - 15) place in
+    let here : firstOf (rowRules age (weightBefore all age) (rowIn all age)) ≡ rowRefusal before r = λ i. firstOf (rowRules age (weight-same before (r ∷ l) i) (rowNumbers (there i))) in
+    let older : dueAge (before ++ r ∷ []) ≡ suc age = omega (arith, length-append before (r ∷ [])) in
+    let later = rw (append-assoc, older) at (rows-kept (before ++ r ∷ []) l) in
+    let rules = both (firstOf (rowRules age (weightBefore all age) (rowIn all age))) (rowsRefusal all (suc age) (length l)) in
+    ((λ k. rules .1 (here ∙ k .0, later .0 (k .1))), (λ e. let f = rules .0 e in (sym here ∙ f .0, later .1 (f .1))))
+
+-- ---- the members
+module _ {A : Type 0} (rule : List A → A → ℕ) (d : A) where
+  each-at : (before l : List A) → EachAfter rule before l → (j : ℕ) → j < length l → rule (before ++ take j l) (getD l j d) ≡ 0
+  each-at before [] k j h = absurd (omega arith)
+  each-at before (a ∷ l) k zero h = rw append-nil (k .0)
+  each-at before (a ∷ l) k (suc j) h = rw append-assoc at (each-at (before ++ a ∷ []) l (k .1) j (omega arith))
+
+  at-each : (before l : List A) → ((j : ℕ) → j < length l → rule (before ++ take j l) (getD l j d) ≡ 0) → EachAfter rule before l
+  at-each before [] f = tt
+  at-each before (a ∷ l) f =
+      (rw append-nil at (f 0 (omega arith)), at-each (before ++ a ∷ []) l (λ j h. rw append-assoc (f (suc j) (omega arith))))
+
+id-at : (l : List Member) (j : ℕ) → j < length l → lastId (take j l) ≡ idBefore l j
+id-at l zero h = refl
+id-at [] (suc j) h = absurd (omega arith)
+id-at (m ∷ l) (suc zero) h = refl
+id-at (m ∷ []) (suc (suc j)) h = absurd (omega arith)
+id-at (m ∷ n ∷ l) (suc (suc j)) h = id-at (n ∷ l) (suc j) (omega arith)
+
+-- ---- a whole case
+module _ (h : Head) (members : List Member) (k : ℕ) (sized : Sized k (ended h members)) where
+  plan-kept : (planRefusal (planOf (h .terms)) (h .rows) ≡ 0) ↔ (Each termRefusal (h .terms) × Each rowRefusal (h .rows))
+  unfolding planRefusal
+  plan-kept =
+      let rules = both (firstOf (headRules (planOf (h .terms)))) (rowsRefusal (h .rows) 15 106) in
+      let head = head-kept (h .terms) (sized .1) in
+      let lines = rw (sized .2) at (rows-kept [] (h .rows)) in
+      ((λ e. let k = rules .0 e in (head .1 (k .0), lines .1 (k .1))), (λ k. rules .1 (head .0 (k .0), lines .0 (k .1))))
+
+  case-kept : Kept (ended h members) ↔ AcceptedCase (caseOf h members)
+  case-kept = (
+    (λ k.
+        record {
+          plan = plan-kept .1 (k .terms, k .rows);
+          ages = sized .2;
+          few = sized .3;
+          member = λ j low. rw (← id-at members j low) (each-at (personRefusal h) nobody [] members (k .members) j low);
+        }),
+    (λ a.
+        let p = plan-kept .0 (a .plan) in
+        record {
+          terms = p .0;
+          rows = p .1;
+          members = at-each (personRefusal h) nobody [] members (λ j low. rw (id-at members j low) (a .member j low));
+        }),
+  )
+
+end-kept : (k : ℕ) (rest : List ℕ) (last : State) (c : Case) → closed k rest last ≡ values c → Sized k last → Kept last ↔ AcceptedCase c
+end-kept k rest (heading h) c e sized = no-values e
+end-kept k rest (table h) c e sized = no-values e
+end-kept k rest (people h members) c e sized = no-values e
+end-kept k rest (ended h members) c e sized = subst (λ (c : Case). Kept (ended h members) ↔ AcceptedCase c) (whole (eqb (length rest) 0) e) (case-kept h members k sized)
+  where
+    whole : (b : Bool) → cond b (values (caseOf h members)) (refusal 3 k) ≡ values c → caseOf h members ≡ c
+    whole true e = values-one e
+    whole false e = no-values e
+
+-- ---- the walk
+module _ (s : List ℕ) (c : Case) where
+  -- where a walk gives values: its last state
+  record Last (ranges : Bool) : Type 0 where
+    last : State
+    short : ltb 65536 (length s) ≡ false
+    fold : folded ranges (restOf s) 1 start (linesOf s) ≡ values last
+    whole : closed (1 + length (linesOf s)) (restOf s) last ≡ values c
+
+  last-of : (ranges : Bool) → walkOf ranges s ≡ values c → Last ranges
+  unfolding walkOf walkFrom
+  last-of ranges = pick (ltb 65536 (length s)) refl
+    where
+      pick : (b : Bool) → ltb 65536 (length s) ≡ b → cond b (refusal 1 0) (walkFrom ranges 1 start s) ≡ values c → Last ranges
+      pick true h e = no-values e
+      pick false h e =
+          let f = then-values (folded ranges (restOf s) 1 start (linesOf s)) _ e in
+          record { last = f .0; short = h; fold = f .1; whole = f .2 }
+
+  walk-of : (ranges : Bool) → Last ranges → walkOf ranges s ≡ values c
+  unfolding walkOf walkFrom
+  walk-of ranges f = rw (f .short, f .fold) (f .whole)
+
+  last-kept : (ranges : Bool) (f : Last ranges) → Kept (f .last) ↔ AcceptedCase c
+  last-kept ranges f =
+      end-kept _ _ (f .last) c (f .whole) (folded-keeps Sized line-sized ranges (restOf s) 1 start (linesOf s) (f .fold) start-sized)
+
+start-kept : Kept start
+start-kept = record { terms = tt; rows = tt; members = tt }
+
+pub accepted-keeps : AcceptedKeepsRules
+accepted-keeps s c e =
+    let f = last-of s c true e in
+    let g = accepted-kept Kept line-kept (restOf s) 1 start (linesOf s) (f .fold) start-kept in
+    (walk-of s c false (record { last = f .last; short = f .short; fold = g .0; whole = f .whole }), (last-kept s c true f) .0 (g .1))
+
+pub accepts-kept : AcceptsWhatKeepsRules
+accepts-kept s c e a =
+    let f = last-of s c false e in
+    let g = kept-accepted Kept line-kept (restOf s) 1 start (linesOf s) (f .fold) ((last-kept s c false f) .1 a) in
+    walk-of s c true (record { last = f .last; short = f .short; fold = g .0; whole = f .whole })

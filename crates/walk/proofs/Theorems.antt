@@ -1,0 +1,132 @@
+-- The statements of specs/Answers.antt on which refusals there are.
+use Prim.Native.Nat.{ℕ, zero, suc, _+_, _≤_, _<_}
+use mathlib.Core.Path.{_≡_, refl, sym, _∙_}
+use mathlib.Core.List.{List}
+use mathlib.Core.Bool.{Bool, true, false, cond}
+use mathlib.Core.Logic.{_⊎_, inl, inr, ⊎-elim}
+use lib.ListN.{length}
+use lib.Dec.{ltb, eqb, eqb·suc-zero}
+use native.Mathlib.Omega.{arith}
+use Rattle.fields.proofs.SplitLaws.{off}
+use Rattle.plan.specs.Refusals.{bytesAfter}
+use Rattle.walk.specs.Outcome.{Outcome, values, refusal, settled}
+use Rattle.walk.specs.Terms.{termForms}
+use Rattle.walk.specs.Step.{State, heading, table, people, ended, Line, wrong, right, lineOf, judged, step}
+use Rattle.walk.specs.Walk.{Case, linesOf, restOf, closed, start, walkFrom, walkOf}
+use Rattle.walk.specs.Answers.{Part, FormOf, term-cut, row-cut, tail-cut, after-end, RangeOf, FormNumber, too-large, of-line, LineOf, Placed, no-line, of-form, of-range, RefusalsArePlaced, ReadingGivesForm, ReadingRefuses, AcceptingRefuses}
+use Rattle.walk.proofs.OutcomeLaws.{settled-none, Only}
+use Rattle.walk.proofs.LineLaws.{along}
+use Rattle.walk.proofs.FoldLaws.{Right, along-only, Before, NoLater, along-no-later}
+use Rattle.walk.proofs.StepLaws.{partOf, Sized, Lawful, lawful, line-sized, line-order}
+
+-- ---- one line by its number: a law over the numbers of its part
+module _ (ranges : Bool) (P : ℕ → ℕ → Type 0) (k : ℕ) (state : State) (form : (n : ℕ) → FormOf (partOf state) n → P n k) where
+  judged-only : (ranges ≡ true → (n : ℕ) → RangeOf (partOf state) n → P n k) → (x : Line) → Lawful state x → Only P (judged ranges k x)
+  judged-only range (wrong r n) h = rw (h .0, settled-none ranges) (form n (h .1))
+  judged-only range (right zero next) h = rw (settled-none ranges) tt
+  judged-only range (right (suc r) next) h = pick ranges refl (⊎-elim (λ e. absurd (omega arith)) (λ n. n) (h .ranged))
+    where
+      pick : (t : Bool) → ranges ≡ t → RangeOf (partOf state) (suc r) → Only P (judged t k (right (suc r) next))
+      pick true on n = rw (eqb·suc-zero r) (range on (suc r) n)
+      pick false on n = tt
+
+  ended-only : (state : State) (c : Case) (b : Bool) → P bytesAfter k → Only P (cond b (values c) (refusal bytesAfter k))
+  ended-only state c true p = tt
+  ended-only state c false p = p
+
+  closed-only : (rest : List ℕ) → Only P (closed k rest state)
+  closed-only rest = go state form
+    where
+      go : (state : State) → ((n : ℕ) → FormOf (partOf state) n → P n k) → Only P (closed k rest state)
+      go (heading h) form = form _ term-cut
+      go (table h) form = form _ row-cut
+      go (people h members) form = form _ tail-cut
+      go (ended h members) form = ended-only (ended h members) _ (eqb (length rest) 0) (form _ after-end)
+
+  pub step-only : (ranges ≡ true → (n : ℕ) → RangeOf (partOf state) n → P n k) → (line ahead : List ℕ) → Only P (step ranges k state line ahead)
+  unfolding step
+  step-only range line ahead = judged-only range (lineOf state line ahead) (lawful state line ahead)
+
+-- ---- the whole file: its size, and its lines
+short-or-long : (P : Outcome Case → Outcome Case → Type 0) (s : List ℕ) → P (refusal 1 0) (refusal 1 0) → P (walkFrom false 1 start s) (walkFrom true 1 start s) → P (walkOf false s) (walkOf true s)
+unfolding walkOf
+short-or-long P s long short = pick (ltb 65536 (length s))
+  where
+    pick : (b : Bool) → P (cond b (refusal 1 0) (walkFrom false 1 start s)) (cond b (refusal 1 0) (walkFrom true 1 start s))
+    pick true = long
+    pick false = short
+
+any-line : (k : ℕ) (state : State) (line ahead : List ℕ) → Unit {0} → Right (λ r next. Unit {0}) (lineOf state line ahead)
+any-line k state line ahead h = go (lineOf state line ahead)
+  where
+    go : (x : Line) → Right (λ r next. Unit {0}) x
+    go (wrong r n) = tt
+    go (right r next) = tt
+
+-- reading gives numbers of form
+walk-form : (s : List ℕ) → Only (λ n l. FormNumber n) (walkOf false s)
+unfolding walkFrom
+walk-form s =
+    let P : ℕ → ℕ → Type 0 = λ n l. FormNumber n in
+    let form : (k : ℕ) (state : State) (n : ℕ) → FormOf (partOf state) n → P n k = λ k state n f. of-line (partOf state) f in
+    short-or-long (λ read accepted. Only P read) s too-large
+    (along-only false P (λ k state. Unit {0}) any-line (λ k state line ahead h. step-only false P k state (form k state) (λ e. off (sym e)) line ahead) (λ k rest state h. closed-only false P k state (form k state) rest) (restOf s) 1 start (linesOf s) tt)
+
+-- each refusal is at a line of its part
+line-of : (k : ℕ) (state : State) → Sized k state → LineOf (partOf state) k
+line-of k (heading h) s = (omega (arith, s .0), omega (arith, s .0, s .1))
+line-of k (table h) s = (omega (arith, s .0), omega (arith, s .0, s .2))
+line-of k (people h members) s = (omega (arith, s .0), omega (arith, s .0, s .3))
+line-of k (ended h members) s = (omega (arith, s .0), omega (arith, s .0, s .3))
+
+pub start-sized : Sized 1 start
+unfolding termForms
+start-sized = (omega arith, omega arith, refl)
+
+lines-placed : (ranges : Bool) (s : List ℕ) → Only Placed (walkFrom ranges 1 start s)
+unfolding walkFrom
+lines-placed ranges s =
+    let form : (k : ℕ) (state : State) → Sized k state → (n : ℕ) → FormOf (partOf state) n → Placed n k = λ k state h n f. of-form (partOf state) f (line-of k state h) in
+    along-only ranges Placed Sized line-sized (λ k state line ahead h. step-only ranges Placed k state (form k state h) (λ on n r. of-range (partOf state) r (line-of k state h)) line ahead) (λ k rest state h. closed-only ranges Placed k state (form k state h) rest) (restOf s) 1 start (linesOf s) start-sized
+
+pub refusals-are-placed : RefusalsArePlaced
+unfolding walkOf
+refusals-are-placed ranges s n l e = rw e at (pick (ltb 65536 (length s)))
+  where
+    pick : (b : Bool) → Only Placed (cond b (refusal 1 0) (walkFrom ranges 1 start s))
+    pick true = no-line
+    pick false = lines-placed ranges s
+
+-- none is at a line before the first
+pub low : (ranges : Bool) (rest : List ℕ) (j k : ℕ) (state : State) (lines : List (List ℕ)) → j < k → Only (λ n l. j < l) (along ranges rest k state lines)
+low ranges rest j k state lines h =
+    let P : ℕ → ℕ → Type 0 = λ n l. j < l in
+    along-only ranges P (λ k state. j < k) (later-line j) (λ k state line ahead h. step-only ranges P k state (λ n f. h) (λ on n r. h) line ahead) (λ k rest state h. closed-only ranges P k state (λ n f. h) rest) rest k state lines h
+  where
+    later-line : (j k : ℕ) (state : State) (line ahead : List ℕ) → j < k → Right (λ r next. j < k + 1) (lineOf state line ahead)
+    later-line j k state line ahead h = go (lineOf state line ahead)
+      where
+        go : (x : Line) → Right (λ r next. j < k + 1) x
+        go (wrong r n) = tt
+        go (right r next) = omega arith
+
+walk-no-later : (s : List ℕ) → NoLater (walkOf false s) (walkOf true s)
+unfolding walkFrom
+walk-no-later s = short-or-long NoLater s (inl refl) (along-no-later line-order (low false) (restOf s) 1 start (linesOf s))
+
+pub reading-gives : ReadingGivesForm
+reading-gives s n l e = rw e at (walk-form s)
+
+pub reading-refuses : ReadingRefuses
+reading-refuses s n l e =
+    ⊎-elim
+    (λ (same : walkOf false s ≡ walkOf true s). record { number = n; line = l; is = sym same ∙ e; first = inl (refl, refl) })
+    (λ (b : Before (walkOf false s) (walkOf true s)). record { number = b .number; line = b .line; is = b .is; first = inr (b .range, rw e at (b .later)) })
+    (walk-no-later s)
+
+pub accepting-refuses : AcceptingRefuses
+accepting-refuses s n l e =
+    ⊎-elim
+    (λ (same : walkOf false s ≡ walkOf true s). inl (same ∙ e))
+    (λ (b : Before (walkOf false s) (walkOf true s)). let number : b .number ≡ n = cc (b .is, e) in inr (rw number at (b .range)))
+    (walk-no-later s)

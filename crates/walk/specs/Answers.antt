@@ -1,0 +1,109 @@
+-- Rules 5.1, 5.2 and 12.4 as statements of the walk: `walkOf false` reads a case file for its form, `walkOf true` accepts it for its ranges too.
+use Prim.Native.Nat.{ℕ, zero, suc, _+_, _≤_, _<_}
+use mathlib.Core.Path.{_≡_}
+use mathlib.Core.List.{List, [], _++_}
+use mathlib.Core.Bool.{Bool, true, false}
+use mathlib.Core.Logic.{_⊎_}
+use lib.ListN.{length, take}
+use Rattle.fields.specs.Split.{seekOf, hasOf, pastOf}
+use Rattle.plan.specs.Refusals.{tooLarge, cutOff, bytesAfter, wrongCount, planForm, outOfRange, wrongAverage, wrongLastDeath, wrongWeight, memberForm, wrongId, wrongEntry, wrongAge, wrongSalary, highBenefit, surplusMember}
+use Rattle.walk.specs.Outcome.{values, refusal}
+use Rattle.walk.specs.Terms.{termForms}
+use Rattle.walk.specs.Lines.{ages, mostMembers}
+use Rattle.walk.specs.Walk.{Case, walkOf}
+use Rattle.walk.specs.Kept.{AcceptedCase}
+
+-- ---- the numbers, by the lines that they are for: of form, and of ranges
+pub data Part : Type 0 where
+  in-heading : Part
+  in-table : Part
+  in-members : Part
+  past-end : Part
+
+pub data FormOf : Part → ℕ → Type 0 where
+  term-cut : FormOf in-heading cutOff
+  term-form : FormOf in-heading planForm
+  row-cut : FormOf in-table cutOff
+  row-form : FormOf in-table planForm
+  tail-cut : FormOf in-members cutOff
+  count : FormOf in-members wrongCount
+  tail-form : FormOf in-members memberForm
+  surplus : FormOf in-members surplusMember
+  after-end : FormOf past-end bytesAfter
+
+pub data RangeOf : Part → ℕ → Type 0 where
+  of-a-term : RangeOf in-heading outOfRange
+  of-average : RangeOf in-heading wrongAverage
+  of-a-rate : RangeOf in-table outOfRange
+  of-death : RangeOf in-table wrongLastDeath
+  of-weight : RangeOf in-table wrongWeight
+  of-id : RangeOf in-members wrongId
+  of-entry : RangeOf in-members wrongEntry
+  of-age : RangeOf in-members wrongAge
+  of-salary : RangeOf in-members wrongSalary
+  of-benefit : RangeOf in-members highBenefit
+
+-- rule 5.1: the numbers of form; rule 12.3: those of ranges
+pub data FormNumber : ℕ → Type 0 where
+  too-large : FormNumber tooLarge
+  of-line : {n : ℕ} → (part : Part) → FormOf part n → FormNumber n
+
+pub data RangeNumber : ℕ → Type 0 where
+  of-line : {n : ℕ} → (part : Part) → RangeOf part n → RangeNumber n
+
+-- ---- which lines a number can have: 0 for the file's size, and else those of its part
+-- rule 1.7: 8 lines of terms, 106 rows, at most 1,000 members and the end
+abbrev pub LineOf : Part → ℕ → Type 0
+LineOf in-heading l = (1 ≤ l) × (l ≤ length termForms)
+LineOf in-table l = (length termForms < l) × (l ≤ length termForms + ages)
+LineOf in-members l = (length termForms + ages < l) × (l ≤ length termForms + ages + mostMembers + 1)
+LineOf past-end l = (length termForms + ages + 1 < l) × (l ≤ length termForms + ages + mostMembers + 2)
+
+pub data Placed : (number line : ℕ) → Type 0 where
+  no-line : Placed tooLarge 0
+  of-form : {n l : ℕ} → (part : Part) → FormOf part n → LineOf part l → Placed n l
+  of-range : {n l : ℕ} → (part : Part) → RangeOf part n → LineOf part l → Placed n l
+
+abbrev pub RefusalsArePlaced : Type 0
+RefusalsArePlaced = (ranges : Bool) (s : List ℕ) (n l : ℕ) → walkOf ranges s ≡ refusal n l → Placed n l
+
+-- ---- rule 12.4: the first refusal
+-- the bytes through the end of line n; all of them where they end before it
+unfoldable pub through : (n : ℕ) → List ℕ → List ℕ
+through zero s = []
+through (suc n) s = take (seekOf 10 s + 1) s ++ through n (pastOf 10 s)
+
+-- a refusal at line l rests on the bytes through the end of line l: whatever follows them, it stands. But 1 is of the length alone; and 2
+-- says that line l does not end, so that what follows must not end it
+abbrev pub RestsOnLines : Type 0
+RestsOnLines =
+    (ranges : Bool) (s after : List ℕ) (n l : ℕ) → walkOf ranges s ≡ refusal n l → (n ≡ tooLarge → ⊥) → (n ≡ cutOff → hasOf 10 after ≡ false) → length (through l s ++ after) ≤ 65536 → walkOf ranges (through l s ++ after) ≡ refusal n l
+
+-- ---- reading
+-- rule 5.1: a refusal of reading has a number of form
+abbrev pub ReadingGivesForm : Type 0
+ReadingGivesForm = (s : List ℕ) (n l : ℕ) → walkOf false s ≡ refusal n l → FormNumber n
+
+-- rule 5.2, whichever kind of fault comes first: what reading refuses, accepting refuses too, by the same number and line or by a
+-- range's number at an earlier line
+pub record RefusedToo (s : List ℕ) (n l : ℕ) : Type 0 where
+  pub number : ℕ
+  pub line : ℕ
+  pub is : walkOf true s ≡ refusal number line
+  pub first : ((number ≡ n) × (line ≡ l)) ⊎ (RangeNumber number × (line < l))
+
+abbrev pub ReadingRefuses : Type 0
+ReadingRefuses = (s : List ℕ) (n l : ℕ) → walkOf false s ≡ refusal n l → RefusedToo s n l
+
+-- ---- accepting
+-- what accepting refuses is reading's refusal, or a range's
+abbrev pub AcceptingRefuses : Type 0
+AcceptingRefuses = (s : List ℕ) (n l : ℕ) → walkOf true s ≡ refusal n l → (walkOf false s ≡ refusal n l) ⊎ RangeNumber n
+
+-- the values of a file that is accepted are those that reading found, and keep every rule
+abbrev pub AcceptedKeepsRules : Type 0
+AcceptedKeepsRules = (s : List ℕ) (c : Case) → walkOf true s ≡ values c → (walkOf false s ≡ values c) × AcceptedCase c
+
+-- and a file whose form is right and whose values keep every rule is accepted
+abbrev pub AcceptsWhatKeepsRules : Type 0
+AcceptsWhatKeepsRules = (s : List ℕ) (c : Case) → walkOf false s ≡ values c → AcceptedCase c → walkOf true s ≡ values c

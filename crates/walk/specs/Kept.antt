@@ -1,0 +1,54 @@
+-- What it is for the lines so far to keep every range rule, and for a whole case (rule 5.2).
+use Prim.Native.Nat.{ℕ, zero, suc, _≤_, _<_}
+use mathlib.Core.Path.{_≡_}
+use mathlib.Core.List.{List, [], _∷_, _++_}
+use lib.ListN.{length, getD}
+use Rattle.plan.specs.declared.Member.{Member}
+use Rattle.plan.specs.Acceptance.{planRefusal, memberRefusal}
+use Rattle.walk.specs.Terms.{termRefusal}
+use Rattle.walk.specs.Lines.{ages, rowRefusal, mostMembers}
+use Rattle.walk.specs.Step.{Head, State, heading, table, people, ended, personRefusal}
+use Rattle.walk.specs.Walk.{Case}
+
+-- each item keeps a rule that may look at the items before it
+abbrev pub EachAfter : {A : Type 0} → (rule : List A → A → ℕ) → (before : List A) → List A → Type 0
+EachAfter rule before [] = Unit {0}
+EachAfter rule before (a ∷ l) = (rule before a ≡ 0) × EachAfter rule (before ++ a ∷ []) l
+
+abbrev pub Each : {A : Type 0} → (rule : List A → A → ℕ) → List A → Type 0
+Each rule = EachAfter rule []
+
+-- what a state holds
+abbrev pub headIn : State → Head
+headIn (heading h) = h
+headIn (table h) = h
+headIn (people h members) = h
+headIn (ended h members) = h
+
+abbrev pub membersIn : State → List Member
+membersIn (heading h) = []
+membersIn (table h) = []
+membersIn (people h members) = members
+membersIn (ended h members) = members
+
+pub record Kept (state : State) : Type 0 where
+  pub terms : Each termRefusal (headIn state .terms)
+  pub rows : Each rowRefusal (headIn state .rows)
+  pub members : Each (personRefusal (headIn state)) (membersIn state)
+
+-- ---- a case, for those who value it
+-- no member: what stands past the last
+abbrev pub nobody : Member
+nobody = record { id = 0; entry = 0; age = 0; salary = 0 }
+
+-- rule 4.2: the id of the member before member j, 0 for the first
+abbrev pub idBefore : List Member → ℕ → ℕ
+idBefore l zero = 0
+idBefore l (suc j) = (getD l j nobody) .id
+
+-- rule 5.2: every range rule is kept, by the plan with its rows and by each member after the one before it
+pub record AcceptedCase (c : Case) : Type 0 where
+  pub plan : planRefusal (c .plan) (c .rows) ≡ 0
+  pub ages : length (c .rows) ≡ ages
+  pub few : length (c .members) ≤ mostMembers
+  pub member : (j : ℕ) → j < length (c .members) → memberRefusal (c .plan) (c .rows) (idBefore (c .members) j) (getD (c .members) j nobody) ≡ 0

@@ -1,0 +1,66 @@
+-- The lines after the heading: a row, RULES section 3; a member or the end, section 4. The range rules are the crate plan's.
+use Prim.Native.Nat.{ℕ, _+_}
+use mathlib.Core.List.{List, [], _∷_}
+use mathlib.Core.Bool.{Bool, cond}
+use lib.ListN.{length, getD}
+use lib.Dec.{eqb}
+use Rattle.fields.specs.Text.{bytes}
+use Rattle.fields.specs.Split.{startsOf}
+use Rattle.fields.specs.Numbers.{wholeOf, amountOf}
+use Rattle.fields.specs.Values.{Values, found, misread, keyedOf}
+use Rattle.plan.specs.declared.Member.{Member}
+use Rattle.plan.specs.Rules.{firstOf}
+use Rattle.plan.specs.Acceptance.{rowRules, rowNumbers, weightBefore}
+
+-- ---- a row
+-- the age that is due, and the four numbers after it
+abbrev pub inTurn : (age : ℕ) → Values → Values
+inTurn age (found (a ∷ row)) = cond (eqb a age) (found row) misread
+inTurn age (found []) = misread
+inTurn age misread = misread
+
+-- rule 3.1: row=, the age, the three rates and the weight
+unfoldable pub rowOf : (age : ℕ) → List ℕ → Values
+rowOf age line = inTurn age (keyedOf (bytes "row=") wholeOf 4 line)
+
+-- rule 3.1: a row for each age from 15 to 120, in turn
+abbrev pub ages : ℕ
+ages = 106
+
+abbrev pub dueAge : (rows : List (List ℕ)) → ℕ
+dueAge rows = length rows + 15
+
+-- rules 3.2, 3.4 and 3.5 of a row after those before it
+abbrev pub rowRefusal : (before : List (List ℕ)) → (row : List ℕ) → ℕ
+rowRefusal before row = firstOf (rowRules (dueAge before) (weightBefore before (dueAge before)) (rowNumbers row))
+
+-- ---- a member, or the end
+-- what a line after the rows is
+pub data Tail : Type 0 where
+  person : Member → Tail
+  end : (count : ℕ) → Tail
+  surplus : Tail
+  neither : Tail
+
+-- rule 4.1: at most 1,000 members
+abbrev pub mostMembers : ℕ
+mostMembers = 1000
+
+-- rule 4.1: id, entry age, age and salary; rule 4.6: the count of members
+abbrev pub memberFrom : List ℕ → Member
+memberFrom vs = record { id = getD vs 0 0; entry = getD vs 1 0; age = getD vs 2 0; salary = getD vs 3 0 }
+
+abbrev pub personMade : Values → Tail
+personMade (found vs) = person (memberFrom vs)
+personMade misread = neither
+
+abbrev pub endMade : Values → Tail
+endMade (found vs) = end (getD vs 0 0)
+endMade misread = neither
+
+-- rule 12.3, refusal 27: one member= more than 1,000, however it goes on; refusal 20: no member line and no end line, or a wrong form
+unfoldable pub tailOf : (full : Bool) → List ℕ → Tail
+tailOf full line =
+    cond (startsOf (bytes "member=") line)
+    (cond full surplus (personMade (keyedOf (bytes "member=") amountOf 3 line)))
+    (endMade (keyedOf (bytes "end=") wholeOf 0 line))
