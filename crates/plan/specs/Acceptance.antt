@@ -77,6 +77,20 @@ abbrev pub termsOf : Plan → List ℕ
 termsOf p =
     p .interest ∷ p .retire ∷ p .formula ∷ p .unit ∷ p .average ∷ p .method ∷ p .assets ∷ p .years ∷ []
 
+-- and the plan of some terms
+abbrev pub planFrom : List ℕ → Plan
+planFrom t =
+    record {
+      interest = getD t 0 0;
+      retire = getD t 1 0;
+      formula = getD t 2 0;
+      unit = getD t 3 0;
+      average = getD t 4 0;
+      method = getD t 5 0;
+      assets = getD t 6 0;
+      years = getD t 7 0;
+    }
+
 -- each by its rule
 abbrev pub judged : List TermRule → (before terms : List ℕ) → List ℕ
 judged [] before terms = []

@@ -7,6 +7,7 @@
 pub mod acceptance;
 pub mod benefit;
 pub mod rules;
+pub mod terms;
 
 // Rule 2.4: how the benefit accrues.
 pub enum Formula {
@@ -34,6 +35,9 @@ pub struct Plan {
     pub assets: u64,
     pub years: u64,
 }
+
+// The terms in the order of the heading's lines (rule 2.1).
+pub type Terms = [u64; 8];
 
 pub struct Member {
     pub id: u64,

@@ -11,10 +11,10 @@ use native.Mathlib.Omega.{arith}
 use native.Mathlib.Nat.{add-zero}
 use Rattle.plan.specs.declared.Member.{Member}
 use Rattle.plan.specs.Rules.{firstOf}
-use Rattle.plan.specs.Acceptance.{TermRule, termRules, termRule, termsOf, judged, headRules, rowRules, rowNumbers, rowOf as rowIn, weightBefore, rowsRefusal, planRefusal}
+use Rattle.plan.specs.Acceptance.{TermRule, termRules, termRule, termsOf, judged, headRules, rowRules, rowNumbers, rowOf as rowIn, weightBefore, rowsRefusal, planRefusal, planFrom}
 use Rattle.plan.proofs.Facts.{All-kept, all-kept, kept-all}
 use Rattle.walk.specs.Outcome.{Outcome, values, refusal}
-use Rattle.walk.specs.Terms.{termForms, termRefusal, planOf}
+use Rattle.walk.specs.Terms.{termForms, termRefusal}
 use Rattle.walk.specs.Lines.{dueAge, rowRefusal}
 use Rattle.walk.specs.Step.{Head, State, heading, table, people, ended, lastId, personRefusal}
 use Rattle.walk.specs.Walk.{Case, linesOf, restOf, caseOf, closed, folded, start, walkFrom, walkOf}
@@ -41,7 +41,7 @@ each-judged (rule ∷ rules) before (v ∷ t) same fits =
     let here : termRefusal before v ≡ rule before v = ap (λ (r : TermRule). r before v) (sym (ap termRule (add-zero (length before))) ∙ same 0) in
     ((λ k. (sym here ∙ k .0, later .0 (k .1))), (λ k. (here ∙ k .0, later .1 (k .1))))
 
-terms-back : (t : List ℕ) → length t ≡ length termForms → termsOf (planOf t) ≡ t
+terms-back : (t : List ℕ) → length t ≡ length termForms → termsOf (planFrom t) ≡ t
 unfolding termForms
 terms-back [] n = absurd (omega arith)
 terms-back (a ∷ []) n = absurd (omega arith)
@@ -54,7 +54,7 @@ terms-back (a ∷ b ∷ c ∷ d ∷ e ∷ f ∷ g ∷ []) n = absurd (omega arit
 terms-back (a ∷ b ∷ c ∷ d ∷ e ∷ f ∷ g ∷ h ∷ []) n = refl
 terms-back (a ∷ b ∷ c ∷ d ∷ e ∷ f ∷ g ∷ h ∷ i ∷ t) n = absurd (omega arith)
 
-head-kept : (t : List ℕ) → length t ≡ length termForms → Each termRefusal t ↔ (firstOf (headRules (planOf t)) ≡ 0)
+head-kept : (t : List ℕ) → length t ≡ length termForms → Each termRefusal t ↔ (firstOf (headRules (planFrom t)) ≡ 0)
 unfolding termForms headRules
 head-kept t n =
     let k = each-judged termRules [] t (λ j. let place : 0 + j ≡ j = omega arith in ap termRule place) (omega arith) in
@@ -102,10 +102,10 @@ id-at (m ∷ n ∷ l) (suc (suc j)) h = id-at (n ∷ l) (suc j) (omega arith)
 
 -- ---- a whole case
 module _ (h : Head) (members : List Member) (k : ℕ) (sized : Sized k (ended h members)) where
-  plan-kept : (planRefusal (planOf (h .terms)) (h .rows) ≡ 0) ↔ (Each termRefusal (h .terms) × Each rowRefusal (h .rows))
+  plan-kept : (planRefusal (planFrom (h .terms)) (h .rows) ≡ 0) ↔ (Each termRefusal (h .terms) × Each rowRefusal (h .rows))
   unfolding planRefusal
   plan-kept =
-      let rules = both (firstOf (headRules (planOf (h .terms)))) (rowsRefusal (h .rows) 15 106) in
+      let rules = both (firstOf (headRules (planFrom (h .terms)))) (rowsRefusal (h .rows) 15 106) in
       let head = head-kept (h .terms) (sized .1) in
       let lines = rw (sized .2) at (rows-kept [] (h .rows)) in
       ((λ e. let k = rules .0 e in (head .1 (k .0), lines .1 (k .1))), (λ k. rules .1 (head .0 (k .0), lines .0 (k .1))))

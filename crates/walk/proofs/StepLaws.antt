@@ -15,7 +15,8 @@ use Rattle.fields.specs.Numbers.{wholeOf}
 use Rattle.fields.specs.Values.{Values, found, misread, keyedOf}
 use Rattle.plan.specs.declared.Member.{Member}
 use Rattle.plan.specs.Refusals.{wrongCount}
-use Rattle.walk.specs.Terms.{termForms, termForm, termRefusal, planOf}
+use Rattle.plan.specs.Acceptance.{planFrom}
+use Rattle.walk.specs.Terms.{termForms, termForm, termRefusal}
 use Rattle.walk.specs.Lines.{rowOf, ages, dueAge, rowRefusal, Tail, person, end, surplus, neither, endMade, mostMembers, tailOf}
 use Rattle.walk.specs.Step.{Head, State, heading, table, people, ended, Line, wrong, right, withTerm, afterTerm, termLine, withRow, afterRow, rowLine, lastId, personRefusal, tailLine, lineOf}
 use Rattle.walk.specs.Kept.{EachAfter, Each, Kept}
@@ -128,7 +129,7 @@ tail-lawful h members (person m) room =
     let low = room m refl in
     let long = length-append members (m ∷ []) in
     record {
-      ranged = member-ranged (planOf (h .terms)) (h .rows) (lastId members) m;
+      ranged = member-ranged (planFrom (h .terms)) (h .rows) (lastId members) m;
       kept = (
         (λ k. let f = more .0 (k .members) in (record { terms = k .terms; rows = k .rows; members = f .0 }, f .1)),
         (λ f. record { terms = (f .0) .terms; rows = (f .0) .rows; members = more .1 ((f .0) .members, f .1) }),

@@ -7,9 +7,9 @@ use lib.Dec.{leb, eqb}
 use Rattle.fields.specs.Values.{Values, found, misread}
 use Rattle.plan.specs.declared.Member.{Member}
 use Rattle.plan.specs.Refusals.{bytesAfter, wrongCount, planForm, memberForm, surplusMember}
-use Rattle.plan.specs.Acceptance.{memberRefusal}
+use Rattle.plan.specs.Acceptance.{memberRefusal, planFrom}
 use Rattle.walk.specs.Outcome.{Outcome, values, refusal, passing, settled}
-use Rattle.walk.specs.Terms.{termForms, termForm, termRefusal, planOf}
+use Rattle.walk.specs.Terms.{termForms, termForm, termRefusal}
 use Rattle.walk.specs.Lines.{rowOf, ages, dueAge, rowRefusal, Tail, person, end, surplus, neither, mostMembers, tailOf}
 
 -- what the lines before the members hold
@@ -60,7 +60,7 @@ lastId (m ∷ []) = m .id
 lastId (m ∷ n ∷ l) = lastId (n ∷ l)
 
 abbrev pub personRefusal : Head → (before : List Member) → Member → ℕ
-personRefusal h before m = memberRefusal (planOf (h .terms)) (h .rows) (lastId before) m
+personRefusal h before m = memberRefusal (planFrom (h .terms)) (h .rows) (lastId before) m
 
 abbrev pub tailLine : Head → (members : List Member) → Tail → Line
 tailLine h members (person m) = right (personRefusal h members m) (people h (members ++ m ∷ []))

@@ -7,7 +7,6 @@ use Rattle.fields.specs.Text.{bytes}
 use Rattle.fields.specs.Split.{sameOf}
 use Rattle.fields.specs.Numbers.{wholeOf, amountOf}
 use Rattle.fields.specs.Values.{Values, found, misread, keyedOf}
-use Rattle.plan.specs.declared.Plan.{Plan}
 use Rattle.plan.specs.Acceptance.{termRule}
 
 -- rules 2.4, 2.7 and 5.4: one of some words, and its code, which is its place among them from 1 on
@@ -42,17 +41,3 @@ termForm k = getD termForms k (λ line. misread)
 -- what its rule refuses after the terms before it, 0 for nothing
 abbrev pub termRefusal : (before : List ℕ) → ℕ → ℕ
 termRefusal before v = termRule (length before) before v
-
--- the terms in the order of the lines, as a plan
-abbrev pub planOf : List ℕ → Plan
-planOf t =
-    record {
-      interest = getD t 0 0;
-      retire = getD t 1 0;
-      formula = getD t 2 0;
-      unit = getD t 3 0;
-      average = getD t 4 0;
-      method = getD t 5 0;
-      assets = getD t 6 0;
-      years = getD t 7 0;
-    }

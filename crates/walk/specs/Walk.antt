@@ -9,7 +9,7 @@ use Rattle.plan.specs.declared.Plan.{Plan}
 use Rattle.plan.specs.declared.Member.{Member}
 use Rattle.plan.specs.Refusals.{tooLarge, cutOff, bytesAfter}
 use Rattle.walk.specs.Outcome.{Outcome, values, refusal, andThen}
-use Rattle.walk.specs.Terms.{planOf}
+use Rattle.plan.specs.Acceptance.{planFrom}
 use Rattle.walk.specs.Step.{Head, State, heading, table, people, ended, step}
 
 -- what the lines of a case file hold
@@ -46,7 +46,7 @@ folded ranges rest k state (line ∷ lines) =
 
 -- no line is left at line k. Refusal 2: one is due; refusal 3: bytes after the end line, at the line after it
 abbrev pub caseOf : Head → (members : List Member) → Case
-caseOf h members = record { plan = planOf (h .terms); rows = h .rows; members = members }
+caseOf h members = record { plan = planFrom (h .terms); rows = h .rows; members = members }
 
 abbrev pub closed : (k : ℕ) → (rest : List ℕ) → State → Outcome Case
 closed k rest (heading h) = refusal cutOff k
