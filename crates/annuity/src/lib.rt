@@ -18,6 +18,9 @@ ghost use Rattle.annuity.specs.Filled.{Filled, amountOf, factor};
 // Rule 8.1: one, in billionths.
 pub const S: u64 = 1_000_000_000;
 
+// Rule 3.1: a row for each age from 15 to 120: three rates and the weight.
+pub type Rows = [[u32; 4]; 106];
+
 // One rate alone, in millionths: of a million, how many are left.
 fn left_by(rate: u32) -> u64
     requires { ⌜ rate ≤ 1000000 ⌝ }

@@ -1,52 +1,116 @@
--- The lines of the heading, one at a time. `e` is where the code found byte 10, `r` what it read of the line, `x` what its rule says, and `rest` what the code goes on with.
-use Prim.Native.Nat.{ℕ, zero, suc, _+_, _-_, _≤_, _<_}
-use mathlib.Core.Path.{_≡_, refl, sym, _∙_}
-use mathlib.Core.List.{List, [], _∷_}
-use mathlib.Core.Bool.{Bool, cond}
-use lib.ListN.{length, take, set}
+-- The terms: the invariant of the loop that reads them.
+use Prim.Native.Nat.{ℕ, zero, suc, _+_, _≤_, _<_}
+use mathlib.Core.Path.{_≡_, refl, sym, ap, subst, _∙_}
+use mathlib.Core.List.{List, [], _∷_, _++_}
+use mathlib.Core.Bool.{Bool, true, false, cond}
+use lib.ListN.{length, getD, take, drop, set, length-set}
+use lib.Seq.{take-suc-set, take-all, length-take-le, getD-take}
+use lib.Dec.{eqb}
 use native.Mathlib.Omega.{arith}
-use native.Mathlib.Numerals.{sub-one}
+use native.Mathlib.Numerals.{add-one}
 use borrow.Author.Tests.{eq-eqb, ne-eqb}
-use Rattle.casefile.specs.declared.numbers.Number.{Number}
-use Rattle.casefile.specs.declared.numbers.Number.the-variants.{Value, Malformed}
-use Rattle.casefile.specs.Split.{seekOf, hasOf, uptoOf, pastOf}
-use Rattle.casefile.specs.Outcome.{Outcome, values, refusal, prepend, settled}
-use Rattle.casefile.specs.Heading.{termOf, termRule, formulaFrom, afterTerm, headOf}
-use Rattle.casefile.proofs.Laws.{has-none, has-line}
-use Rattle.casefile.proofs.OutcomeLaws.{stored-next}
+use Rattle.fields.specs.declared.lines.Line.{Line}
+use Rattle.fields.specs.declared.lines.Line.the-variants.{Good, Wrong, Cut}
+use Rattle.fields.specs.Split.{hasOf, uptoOf, pastOf}
+use Rattle.fields.specs.Values.{Values, Held, found, misread}
+use Rattle.fields.proofs.AnswerLaws.{is-good, is-wrong, is-cut, Answers}
+use Rattle.plan.specs.Acceptance.{termRule, unitRule, averageRule}
+use Rattle.walk.specs.Outcome.{refusal, settled}
+use Rattle.walk.specs.Terms.{termForms, termForm, termRefusal}
+use Rattle.walk.specs.Step.{Head, heading, table, Line as Step, wrong, right, withTerm, afterTerm, termLine, lineOf}
+use Rattle.walk.specs.Walk.{start, walkFrom}
+use Rattle.walk.specs.Kept.{Each}
+use Rattle.walk.proofs.StepLaws.{each-next}
+use Rattle.casefile.specs.Stretches.{headed, HeadKept, HeadDone}
+use Rattle.casefile.proofs.StretchLaws.{line-cut, line-wrong, line-refused, line-passed, next-rest, next-within}
 
-pub head-end : (ranges : Bool) (n k f : ℕ) (s : List ℕ) → n ≤ 0 → headOf ranges n k f s ≡ values []
-unfolding headOf
-head-end ranges zero k f s h = refl
-head-end ranges (suc n) k f s h = absurd (omega arith)
+-- a rule looks at no term but those before it
+only-before : (k : ℕ) (t : List ℕ) (v : ℕ) → termRule k (take k t) v ≡ termRule k t v
+only-before zero t v = refl
+only-before (suc zero) t v = refl
+only-before (suc (suc zero)) t v = refl
+only-before (suc (suc (suc zero))) t v = ap (λ (f : ℕ). unitRule f v) (getD-take 3 t 2 0 (omega arith))
+only-before (suc (suc (suc (suc zero)))) t v = ap (λ (f : ℕ). averageRule f v) (getD-take 4 t 2 0 (omega arith))
+only-before (suc (suc (suc (suc (suc zero))))) t v = refl
+only-before (suc (suc (suc (suc (suc (suc zero)))))) t v = refl
+only-before (suc (suc (suc (suc (suc (suc (suc zero))))))) t v = refl
+only-before (suc (suc (suc (suc (suc (suc (suc (suc k)))))))) t v = refl
 
-head-on : (ranges : Bool) (n k f : ℕ) (s : List ℕ) → 0 < n → headOf ranges n k f s ≡ cond (hasOf 10 s) (afterTerm ranges k f (termOf k (uptoOf 10 s)) (λ g. headOf ranges (n - 1) (k + 1) g (pastOf 10 s))) (refusal 2 k)
-unfolding headOf
-head-on ranges zero k f s h = absurd (omega arith)
-head-on ranges (suc n) k f s h = rw sub-one
+eight : length termForms ≡ 8
+unfolding termForms
+eight = refl
 
-module _ (ranges : Bool) (n k f : ℕ) (s : List ℕ) {e : ℕ} (go : 0 < n) (found : e ≡ seekOf 10 s) where
-  pub head-cut : length s ≤ e → headOf ranges n k f s ≡ refusal 2 k
-  head-cut h = head-on ranges n k f s go ∙ simp (has-none s found h)
+-- k terms are read, the next line is `line`, and it begins at place `at`
+pub record TermsRead (ranges : Bool) (s terms : List ℕ) (line at k : ℕ) : Type 0 where
+  pub size : length terms ≡ 8
+  pub few : k ≤ 8
+  pub place : line ≡ k + 1
+  pub within : at ≤ length s
+  pub kept : ranges ≡ true → Each termRefusal (take k terms)
+  pub way : walkFrom ranges 1 start s ≡ walkFrom ranges line (afterTerm (headed (take k terms))) (drop at s)
 
-  module _ {l : List ℕ} {r : Number} (whole : e < length s) (line : l ≡ uptoOf 10 s) (read : r ≡ termOf k l) where
-    pub head-wrong : r ≡ Malformed → headOf ranges n k f s ≡ refusal 10 k
-    head-wrong m =
-        let t : termOf k (uptoOf 10 s) ≡ Malformed = cc in
-        head-on ranges n k f s go ∙ simp (has-line s found whole, t)
+pub terms-none : (ranges : Bool) (s terms : List ℕ) → length terms ≡ 8 → TermsRead ranges s terms 1 0 0
+unfolding termForms
+terms-none ranges s terms size =
+    record { size = size; few = omega arith; place = refl; within = omega arith; kept = λ on. tt; way = refl }
 
-    module _ {v x : ℕ} (is : r ≡ Value v) (rule : x ≡ settled ranges (termRule k f v)) where
-      pub head-refused : (x ≡ 0 → ⊥) → headOf ranges n k f s ≡ refusal x k
-      head-refused h =
-          let t : termOf k (uptoOf 10 s) ≡ Value v = cc in
-          head-on ranges n k f s go ∙ simp (has-line s found whole, t, sym rule, ne-eqb x 0 h)
+module _ {ranges : Bool} {s terms : List ℕ} {line at k : ℕ} (t : TermsRead ranges s terms line at k) (more : k < 8) (values : List ℕ) {rest : List ℕ} (cut : rest ≡ drop at s) {r : Line} (given : Answers (termForm k) rest r (Held (termForm k (uptoOf 10 rest)) 0 values)) where
+  read : Answers (termForm k) (drop at s) r (Held (termForm k (uptoOf 10 (drop at s))) 0 values)
+  read = rw cut at given
 
-      pub head-go : {g : ℕ} {rest : List ℕ} → x ≡ 0 → g ≡ formulaFrom k f v → rest ≡ pastOf 10 s → headOf ranges n k f s ≡ prepend (v ∷ []) (headOf ranges (n - 1) (k + 1) g rest)
-      head-go h from on =
-          let t : termOf k (uptoOf 10 s) ≡ Value v = cc in
-          rw (from, on) (head-on ranges n k f s go ∙ simp (has-line s found whole, t, sym rule, eq-eqb x 0 h))
+  count : length (take k terms) ≡ k
+  count = length-take-le k terms (omega (arith, t .size))
 
-      -- the value in its place of the array, and the lines that are left
-      pub head-stored : (t : List ℕ) {o : Outcome (List ℕ)} {g : ℕ} {rest : List ℕ} → 1 ≤ k → k - 1 < length t → o ≡ prepend (take (k - 1) t) (headOf ranges n k f s) → x ≡ 0 → g ≡ formulaFrom k f v → rest ≡ pastOf 10 s → o ≡ prepend (take (k + 1 - 1) (set t (k - 1) v)) (headOf ranges (n - 1) (k + 1) g rest)
-      head-stored t {o} {g} {rest} first fits inv h from on =
-          stored-next t (k - 1) (k + 1 - 1) v (headOf ranges (n - 1) (k + 1) g rest) fits (omega arith) inv (head-go h from on)
+  due : walkFrom ranges 1 start s ≡ walkFrom ranges line (heading (headed (take k terms))) (drop at s)
+  due =
+      t .way ∙ simp (ne-eqb (length (take k terms)) (length termForms) (λ e. omega (arith, count, eight)))
+
+  pub terms-cut : r ≡ Cut → walkFrom ranges 1 start s ≡ refusal 2 line
+  terms-cut is = due ∙ line-cut ranges line (heading (headed (take k terms))) (drop at s) (is-cut (termForm k) (drop at s) (read .0) is)
+
+  form : {x : Values} (ahead : List ℕ) → termForm k (uptoOf 10 (drop at s)) ≡ x → lineOf (heading (headed (take k terms))) (uptoOf 10 (drop at s)) ahead ≡ termLine (headed (take k terms)) x
+  unfolding lineOf
+  form ahead is = rw (count, is)
+
+  pub terms-wrong : r ≡ Wrong → walkFrom ranges 1 start s ≡ refusal 10 line
+  terms-wrong is =
+      let w = is-wrong (termForm k) (drop at s) (read .0) is in
+      due ∙ line-wrong ranges line (heading (headed (take k terms))) (drop at s) (w .0) (form (uptoOf 10 (pastOf 10 (drop at s))) (w .1))
+
+  module _ {e x : ℕ} (is : r ≡ Good e) (rule : x ≡ settled ranges (termRule k terms (getD values 0 0))) where
+    good : lineOf (heading (headed (take k terms))) (uptoOf 10 (drop at s)) (uptoOf 10 (pastOf 10 (drop at s))) ≡ right (termRefusal (take k terms) (getD values 0 0)) (afterTerm (withTerm (headed (take k terms)) (getD values 0 0)))
+    good = form (uptoOf 10 (pastOf 10 (drop at s))) (read .1 e is .is) ∙ rw (getD-take 1 values 0 0 (omega arith))
+
+    judged : x ≡ settled ranges (termRefusal (take k terms) (getD values 0 0))
+    judged = rule ∙ rw (count) (ap (settled ranges) (sym (only-before k terms (getD values 0 0))))
+
+    pub terms-refused : (x ≡ 0 → ⊥) → walkFrom ranges 1 start s ≡ refusal x line
+    terms-refused h =
+        due ∙ line-refused ranges line (heading (headed (take k terms))) (drop at s) (is-good (termForm k) (drop at s) (read .0) is .has) good judged h
+
+    pub terms-place : at + (e + 1) ≤ length s
+    terms-place = next-within s at e (is-good (termForm k) (drop at s) (read .0) is)
+
+    pub terms-next : x ≡ 0 → TermsRead ranges s (set terms k (getD values 0 0)) (line + 1) (at + (e + 1)) (k + 1)
+    terms-next h =
+        let g = is-good (termForm k) (drop at s) (read .0) is in
+        let stored : take (k + 1) (set terms k (getD values 0 0)) ≡ take k terms ++ getD values 0 0 ∷ [] = rw (add-one k) (take-suc-set terms k (getD values 0 0) (omega (arith, t .size))) in
+        record {
+          size = length-set terms k (getD values 0 0) ∙ t .size;
+          few = omega arith;
+          place = omega (arith, t .place);
+          within = next-within s at e g;
+          kept = λ on. rw stored (each-next termRefusal [] (take k terms) (getD values 0 0) .1 (t .kept on, sym (judged ∙ rw on) ∙ h));
+          way = due ∙ line-passed ranges line (heading (headed (take k terms))) (drop at s) (g .has) good judged h (next-rest s at e g) ∙ rw stored;
+        }
+
+-- all are read
+pub terms-done : {ranges : Bool} {s terms : List ℕ} {line at k : ℕ} (t : TermsRead ranges s terms line at k) → 8 ≤ k → HeadDone ranges s line at terms
+terms-done {ranges} {s} {terms} {line} {at} {k} t all =
+    let whole : take k terms ≡ terms = take-all k terms (omega (arith, t .size)) in
+    record {
+      good = record { size = t .size ∙ sym eight; kept = λ on. rw (← whole) (t .kept on) };
+      place = omega (arith, t .place, t .few, eight);
+      within = t .within;
+      way = t .way ∙ rw whole (simp (eq-eqb (length terms) (length termForms) (t .size ∙ sym eight)));
+    }

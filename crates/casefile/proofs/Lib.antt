@@ -1,20 +1,6 @@
--- The laws, from single bytes up to the whole file; Theorems, Accepted and Examples are what a reader looks for.
-pub mod Laws
-pub mod FieldLaws
-pub mod QuickLaws
-pub mod OutcomeLaws
+-- The laws of the reader: lines by their kinds, and the loops as stretches of the walk.
+pub mod LineLaws
+pub mod StretchLaws
 pub mod HeadLaws
 pub mod RowLaws
-pub mod StoredLaws
 pub mod MemberLaws
-pub mod AcceptedLaws
-pub mod ExactLaws
-pub mod PartLaws
-pub mod WalkLaws
-pub mod Accepted
-pub mod AnswerLaws
-pub mod RangeLaws
-pub mod OrderLaws
-pub mod ReadingLaws
-pub mod Theorems
-pub mod Examples

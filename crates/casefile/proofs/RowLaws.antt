@@ -1,62 +1,143 @@
--- The rows, one line at a time. `e` is where the code found byte 10, `r` what it read of the line, `x` what its rules say, and `rest` what the code goes on with.
+-- The rows: the invariant of the loop that reads them.
 use Prim.Native.Nat.{ℕ, zero, suc, _+_, _-_, _≤_, _<_}
 use mathlib.Core.Path.{_≡_, refl, sym, ap, _∙_}
-use mathlib.Core.List.{List, [], _∷_}
-use mathlib.Core.Bool.{Bool, cond}
-use lib.ListN.{length, take, set}
+use mathlib.Core.List.{List, [], _∷_, _++_}
+use mathlib.Core.Bool.{Bool, true, false, cond, _&&_}
+use lib.ListN.{length, getD, take, drop, set, length-set, length-append}
+use lib.Seq.{take-suc-set, take-all, getD-at}
+use lib.Dec.{leb, eqb}
 use native.Mathlib.Omega.{arith}
-use native.Mathlib.Numerals.{sub-one}
-use borrow.Author.Tests.{eq-eqb, ne-eqb}
-use Rattle.casefile.specs.declared.rows.RowForm.{RowForm}
-use Rattle.casefile.specs.declared.rows.RowForm.the-variants.{Rates, Wrong}
-use Rattle.casefile.specs.Split.{seekOf, hasOf, uptoOf, pastOf}
-use Rattle.casefile.specs.Outcome.{Outcome, values, refusal, prepend, settled}
-use Rattle.casefile.specs.Rows.{rowOf, rowRule, afterRow, rowsOf}
-use Rattle.casefile.specs.Stored.{narrowOf, each, in32}
-use Rattle.casefile.proofs.Laws.{has-none, has-line}
-use Rattle.casefile.proofs.OutcomeLaws.{stored-next}
+use native.Mathlib.Numerals.{add-one}
+use native.Mathlib.Nat.{min-eq-left}
+use borrow.Author.Tests.{eq-eqb, ne-eqb, leb-true}
+use Rattle.fields.specs.declared.lines.Line.{Line}
+use Rattle.fields.specs.declared.lines.Line.the-variants.{Good, Wrong, Cut}
+use Rattle.fields.specs.Split.{hasOf, uptoOf, pastOf}
+use Rattle.fields.specs.Values.{Values, found, misread}
+use Rattle.fields.proofs.SplitLaws.{and-true-left, and-true-right}
+use Rattle.fields.proofs.AnswerLaws.{is-good, is-wrong, is-cut, Answers}
+use Rattle.plan.specs.Rules.{unless, firstOf, between}
+use Rattle.plan.specs.Acceptance.{rowRules, rowNumbers, weightBefore}
+use Rattle.plan.proofs.RuleLaws.{weight-passed}
+use Rattle.plan.proofs.Facts.{all-kept, kept}
+use Rattle.walk.specs.Outcome.{refusal, settled}
+use Rattle.walk.specs.Lines.{rowOf, ages, dueAge, rowRefusal}
+use Rattle.walk.specs.Step.{Head, table, people, wrong, right, withRow, afterRow, rowLine, lineOf}
+use Rattle.walk.specs.Walk.{walkFrom}
+use Rattle.walk.specs.Kept.{Each}
+use Rattle.walk.proofs.StepLaws.{each-next}
+use Rattle.casefile.specs.Stored.{each}
+use Rattle.casefile.specs.Narrow.{fourOf, RowHeld, narrowOf}
+use Rattle.casefile.specs.Stretches.{headed, tabled, RowsDone}
+use Rattle.casefile.proofs.StretchLaws.{line-cut, line-wrong, line-refused, line-passed, next-rest, next-within}
 
-pub rows-end : (ranges : Bool) (n age before : ℕ) (s : List ℕ) → n ≤ 0 → in32 (rowsOf ranges n age before s) ≡ values []
-unfolding rowsOf
-rows-end ranges zero age before s h = refl
-rows-end ranges (suc n) age before s h = absurd (omega arith)
+pub each-snoc : {A B : Type 0} (f : A → B) (l : List A) (a : A) → each f (l ++ a ∷ []) ≡ each f l ++ f a ∷ []
+each-snoc f [] a = refl
+each-snoc f (b ∷ l) a = ap (λ m. f b ∷ m) (each-snoc f l a)
 
-rows-on : (ranges : Bool) (n age before : ℕ) (s : List ℕ) → 0 < n → rowsOf ranges n age before s ≡ cond (hasOf 10 s) (afterRow ranges age before (rowOf age (uptoOf 10 s)) (λ z. rowsOf ranges (n - 1) (age + 1) z (pastOf 10 s))) (refusal 2 (age - 6))
-unfolding rowsOf
-rows-on ranges zero age before s h = absurd (omega arith)
-rows-on ranges (suc n) age before s h = rw sub-one
+-- a row that keeps the rules fits 32 bits
+row-narrow : (age before : ℕ) (values : List ℕ) → firstOf (rowRules age before (rowNumbers (fourOf values))) ≡ 0 → each narrowOf (fourOf values) ≡ fourOf values
+unfolding rowRules
+row-narrow age before values e =
+    let r = rowNumbers (fourOf values) in
+    let k = all-kept (rowRules age before r) e in
+    let rates = kept (leb (r .death) 1000000 && (leb (r .withdrawal) 1000000 && leb (r .disability) 1000000)) 10 (k .0) in
+    let others = and-true-right (leb (r .death) 1000000) (leb (r .withdrawal) 1000000 && leb (r .disability) 1000000) rates in
+    let scale = and-true-left (between 1000 100000 (r .weight)) (leb before (r .weight)) (kept (between 1000 100000 (r .weight) && leb before (r .weight)) 14 (k .1 .1 .0)) in
+    let hd : r .death ≤ 1000000 = leb-true _ _ (and-true-left (leb (r .death) 1000000) (leb (r .withdrawal) 1000000 && leb (r .disability) 1000000) rates) in
+    let hw : r .withdrawal ≤ 1000000 = leb-true _ _ (and-true-left (leb (r .withdrawal) 1000000) (leb (r .disability) 1000000) others) in
+    let hi : r .disability ≤ 1000000 = leb-true _ _ (and-true-right (leb (r .withdrawal) 1000000) (leb (r .disability) 1000000) others) in
+    let hz : r .weight ≤ 100000 = leb-true _ _ (and-true-right (leb 1000 (r .weight)) (leb (r .weight) 100000) scale) in
+    rw (min-eq-left {n = r .death} {m = 4294967295} (omega arith), min-eq-left {n = r .withdrawal} {m = 4294967295} (omega arith), min-eq-left {n = r .disability} {m = 4294967295} (omega arith), min-eq-left {n = r .weight} {m = 4294967295} (omega arith))
 
-in32-refused : {o : Outcome (List (List ℕ))} {n l : ℕ} → o ≡ refusal n l → in32 o ≡ refusal n l
-in32-refused e = rw e
+weight-next : (rows : List (List ℕ)) (r : List ℕ) → dueAge rows ≤ 120 → weightBefore (rows ++ r ∷ []) (dueAge rows + 1) ≡ getD r 3 0
+weight-next rows r old =
+    let place : length rows ≡ dueAge rows - 15 = omega arith in
+    sym (weight-passed (rows ++ r ∷ []) (dueAge rows) old (omega arith)) ∙ ap (λ (row : List ℕ). getD row 3 0) (getD-at rows r [] [] (dueAge rows - 15) place)
 
-in32-prepend : (row : List ℕ) (o : Outcome (List (List ℕ))) → in32 (prepend (row ∷ []) o) ≡ prepend (each narrowOf row ∷ []) (in32 o)
-in32-prepend row (values t) = refl
-in32-prepend row (refusal n l) = refl
+-- k rows are read, the next line is `line`, and it begins at place `at`. `rows` is what the lines hold, as wide as it stands there
+pub record RowsRead (ranges : Bool) (from : ℕ) (s : List ℕ) (array : List (List ℕ)) (line at k before : ℕ) : Type 0 where
+  pub rows : List (List ℕ)
+  pub many : length rows ≡ k
+  pub size : length array ≡ 106
+  pub few : k ≤ 106
+  pub place : line ≡ from + k
+  pub within : at ≤ length s
+  pub weighed : before ≡ weightBefore rows (k + 15)
+  pub held : take k array ≡ each (each narrowOf) rows
+  pub exact : ranges ≡ true → each (each narrowOf) rows ≡ rows
+  pub kept : ranges ≡ true → Each rowRefusal rows
+  pub way : (t : List ℕ) → walkFrom ranges from (table (headed t)) s ≡ walkFrom ranges line (afterRow (tabled t rows)) (drop at s)
 
-module _ (ranges : Bool) (n age before : ℕ) (s : List ℕ) {e : ℕ} (go : 0 < n) (found : e ≡ seekOf 10 s) where
-  pub rows-cut : length s ≤ e → in32 (rowsOf ranges n age before s) ≡ refusal 2 (age - 6)
-  rows-cut h = in32-refused (rows-on ranges n age before s go ∙ simp (has-none s found h))
+pub rows-none : (ranges : Bool) (from : ℕ) (s : List ℕ) (array : List (List ℕ)) → length array ≡ 106 → RowsRead ranges from s array from 0 0 0
+rows-none ranges from s array size =
+    record { rows = []; many = refl; size = size; few = omega arith; place = omega arith; within = omega arith; weighed = refl; held = refl; exact = λ on. refl; kept = λ on. tt; way = λ t. refl }
 
-  module _ {l : List ℕ} {r : RowForm} (whole : e < length s) (line : l ≡ uptoOf 10 s) (read : r ≡ rowOf age l) where
-    pub rows-wrong : r ≡ Wrong → in32 (rowsOf ranges n age before s) ≡ refusal 10 (age - 6)
-    rows-wrong m =
-        let t : rowOf age (uptoOf 10 s) ≡ Wrong = cc in
-        in32-refused (rows-on ranges n age before s go ∙ simp (has-line s found whole, t))
+module _ {ranges : Bool} {from : ℕ} {s : List ℕ} {array : List (List ℕ)} {line at k before : ℕ} (i : RowsRead ranges from s array line at k before) (more : k < 106) (values : List ℕ) {rest : List ℕ} (cut : rest ≡ drop at s) {r : Line} (given : Answers (rowOf (k + 15)) rest r (RowHeld (rowOf (k + 15) (uptoOf 10 rest)) values)) where
+  read : Answers (rowOf (k + 15)) (drop at s) r (RowHeld (rowOf (k + 15) (uptoOf 10 (drop at s))) values)
+  read = rw cut at given
 
-    module _ {d w i z x : ℕ} (is : r ≡ Rates d w i z) (rule : x ≡ settled ranges (rowRule age before d w i z)) where
-      pub rows-refused : (x ≡ 0 → ⊥) → in32 (rowsOf ranges n age before s) ≡ refusal x (age - 6)
-      rows-refused h =
-          let t : rowOf age (uptoOf 10 s) ≡ Rates d w i z = cc in
-          in32-refused (rows-on ranges n age before s go ∙ simp (has-line s found whole, t, sym rule, ne-eqb x 0 h))
+  module _ (t : List ℕ) where
+    due : walkFrom ranges from (table (headed t)) s ≡ walkFrom ranges line (table (tabled t (i .rows))) (drop at s)
+    due = i .way t ∙ simp (ne-eqb (length (i .rows)) ages (λ e. omega (arith, i .many)))
 
-      pub rows-go : {rest : List ℕ} → x ≡ 0 → rest ≡ pastOf 10 s → rowsOf ranges n age before s ≡ prepend ((d ∷ w ∷ i ∷ z ∷ []) ∷ []) (rowsOf ranges (n - 1) (age + 1) z rest)
-      rows-go h on =
-          let t : rowOf age (uptoOf 10 s) ≡ Rates d w i z = cc in
-          rw on (rows-on ranges n age before s go ∙ simp (has-line s found whole, t, sym rule, eq-eqb x 0 h))
+    pub rows-cut : r ≡ Cut → walkFrom ranges from (table (headed t)) s ≡ refusal 2 line
+    rows-cut is = due ∙ line-cut ranges line (table (tabled t (i .rows))) (drop at s) (is-cut (rowOf (k + 15)) (drop at s) (read .0) is)
 
-      -- the row in its place of the table, and the lines that are left
-      pub rows-stored : (t : List (List ℕ)) {o : Outcome (List (List ℕ))} {rest : List ℕ} {d' w' i' z' : ℕ} → 15 ≤ age → age - 15 < length t → o ≡ prepend (take (age - 15) t) (in32 (rowsOf ranges n age before s)) → x ≡ 0 → rest ≡ pastOf 10 s → d' ≡ narrowOf d → w' ≡ narrowOf w → i' ≡ narrowOf i → z' ≡ narrowOf z → o ≡ prepend (take (age + 1 - 15) (set t (age - 15) (d' ∷ w' ∷ i' ∷ z' ∷ []))) (in32 (rowsOf ranges (n - 1) (age + 1) z rest))
-      rows-stored t {o} {rest} first fits inv h on ed ew ei ez =
-          rw (ed, ew, ei, ez)
-          (stored-next t (age - 15) (age + 1 - 15) (each narrowOf (d ∷ w ∷ i ∷ z ∷ [])) (in32 (rowsOf ranges (n - 1) (age + 1) z rest)) fits (omega arith) inv
-          (ap in32 (rows-go h on) ∙ in32-prepend (d ∷ w ∷ i ∷ z ∷ []) (rowsOf ranges (n - 1) (age + 1) z rest)))
+    form : {x : Values} (ahead : List ℕ) → rowOf (k + 15) (uptoOf 10 (drop at s)) ≡ x → lineOf (table (tabled t (i .rows))) (uptoOf 10 (drop at s)) ahead ≡ rowLine (tabled t (i .rows)) x
+    unfolding lineOf
+    form ahead is = rw (i .many, is)
+
+    pub rows-wrong : r ≡ Wrong → walkFrom ranges from (table (headed t)) s ≡ refusal 10 line
+    rows-wrong is =
+        let w = is-wrong (rowOf (k + 15)) (drop at s) (read .0) is in
+        due ∙ line-wrong ranges line (table (tabled t (i .rows))) (drop at s) (w .0) (form (uptoOf 10 (pastOf 10 (drop at s))) (w .1))
+
+  module _ {e x : ℕ} (is : r ≡ Good e) (rule : x ≡ settled ranges (firstOf (rowRules (k + 15) before (rowNumbers (fourOf values))))) where
+    judged : x ≡ settled ranges (rowRefusal (i .rows) (fourOf values))
+    judged = rule ∙ rw (i .weighed, i .many)
+
+    good : (t : List ℕ) → lineOf (table (tabled t (i .rows))) (uptoOf 10 (drop at s)) (uptoOf 10 (pastOf 10 (drop at s))) ≡ right (rowRefusal (i .rows) (fourOf values)) (afterRow (withRow (tabled t (i .rows)) (fourOf values)))
+    good t = form t (uptoOf 10 (pastOf 10 (drop at s))) (read .1 e is .is)
+
+    pub rows-refused : (x ≡ 0 → ⊥) → (t : List ℕ) → walkFrom ranges from (table (headed t)) s ≡ refusal x line
+    rows-refused h t =
+        due t ∙ line-refused ranges line (table (tabled t (i .rows))) (drop at s) (is-good (rowOf (k + 15)) (drop at s) (read .0) is .has) (good t) judged h
+
+    pub rows-place : at + (e + 1) ≤ length s
+    rows-place = next-within s at e (is-good (rowOf (k + 15)) (drop at s) (read .0) is)
+
+    pub rows-next : {row : List ℕ} → x ≡ 0 → row ≡ each narrowOf (fourOf values) → RowsRead ranges from s (set array k row) (line + 1) (at + (e + 1)) (k + 1) (getD values 4 0)
+    rows-next {row} h narrow =
+        let four = fourOf values in
+        let g = is-good (rowOf (k + 15)) (drop at s) (read .0) is in
+        let long = length-append (i .rows) (four ∷ []) in
+        let stored : take (k + 1) (set array k row) ≡ take k array ++ row ∷ [] = rw (add-one k) (take-suc-set array k row (omega (arith, i .size))) in
+        let older : k + 1 + 15 ≡ dueAge (i .rows) + 1 = omega (arith, i .many) in
+        record {
+          rows = i .rows ++ four ∷ [];
+          many = omega (arith, i .many, long);
+          size = length-set array k row ∙ i .size;
+          few = omega arith;
+          place = omega (arith, i .place);
+          within = next-within s at e g;
+          weighed = rw older (sym (weight-next (i .rows) four (omega (arith, i .many))));
+          held = stored ∙ rw (i .held, narrow) (sym (each-snoc (each narrowOf) (i .rows) four));
+          exact = λ on. each-snoc (each narrowOf) (i .rows) four ∙ rw (i .exact on, row-narrow (k + 15) before values (sym (rule ∙ rw on) ∙ h));
+          kept = λ on. each-next rowRefusal [] (i .rows) four .1 (i .kept on, sym (judged ∙ rw on) ∙ h);
+          way = λ t. due t ∙ line-passed ranges line (table (tabled t (i .rows))) (drop at s) (g .has) (good t) judged h (next-rest s at e g);
+        }
+
+-- all are read
+pub rows-done : {ranges : Bool} {from : ℕ} {s : List ℕ} {array : List (List ℕ)} {line at k before : ℕ} (i : RowsRead ranges from s array line at k before) → 106 ≤ k → RowsDone ranges from s line at array
+rows-done {array = array} {k = k} i all =
+    let full : length (i .rows) ≡ ages = omega (arith, i .many, i .few) in
+    record {
+      rows = i .rows;
+      size = full;
+      kept = i .kept;
+      exact = λ on. sym (take-all k array (omega (arith, i .size))) ∙ i .held ∙ i .exact on;
+      place = omega (arith, i .place, i .few);
+      within = i .within;
+      way = λ t. i .way t ∙ simp (eq-eqb (length (i .rows)) ages full);
+    }

@@ -1,13 +1,7 @@
--- The case file, RULES sections 1 to 5 and 12.
-pub mod Text
-pub mod Numbers
-pub mod Split
-pub mod Fields
-pub mod Outcome
-pub mod Heading
-pub mod Rows
-pub mod Members
-pub mod Case
-pub mod Stored
+-- What the reader of case files answers, with the arrays that it fills.
 pub mod Answers
-pub mod Quick
+pub mod Stored
+pub mod Words
+pub mod Narrow
+pub mod Tails
+pub mod Stretches

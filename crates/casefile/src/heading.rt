@@ -1,184 +1,145 @@
-// The heading, RULES section 2: lines 1 to 8, the plan's own terms.
-use crate::numbers::Number;
-use crate::numbers::amount;
-use crate::numbers::whole;
-use crate::text::after_line;
-use crate::text::line;
-use crate::text::same;
-use crate::text::seek;
-use crate::text::starts;
-use plan::Plan;
-use plan::rules::assets_rule;
-use plan::rules::average_rule;
-use plan::rules::formula_rule;
-use plan::rules::interest_rule;
-use plan::rules::method_rule;
-use plan::rules::retire_rule;
-use plan::rules::unit_rule;
-use plan::rules::years_rule;
+// The heading, RULES section 2: the plan's own terms.
+use crate::Part;
+use fields::lines::Line;
+use fields::lines::Read;
+use fields::lines::keyed_line;
+use fields::lines::unread;
+use fields::text::from;
+use fields::text::same;
+use fields::text::seek;
+use plan::Terms;
+use plan::terms::term_rule;
 ghost use mathlib.Core.Path.{_≡_};
-ghost use Rattle.casefile.specs.Outcome.{settled};
-ghost use Rattle.casefile.specs.Heading.{keyedOf, keyedAmountOf, formulaOf, methodOf, termOf, termRule, formulaFrom, headOf, planOf};
-ghost use Rattle.casefile.specs.Stored.{headed};
+ghost use Prim.Native.Nat.{ℕ};
+ghost use Rattle.fields.specs.declared.lines.Line.the-variants.{Good};
+ghost use Rattle.fields.specs.Split.{uptoOf};
+ghost use Rattle.fields.specs.Values.{Held, lineOf};
+ghost use Rattle.plan.specs.Acceptance.{termRule};
+ghost use Rattle.walk.specs.Outcome.{settled};
+ghost use Rattle.walk.specs.Terms.{formulaOf, methodOf, termForm};
+ghost use Rattle.casefile.specs.Words.{coded, wordOf};
+ghost use Rattle.casefile.specs.Stretches.{HeadIs};
 
-// A line of a key and a whole number.
-fn keyed(s: &[u8], key: &[u8]) -> Number
-    ensures { λ r. ⌜ r ≡ keyedOf (now (key .entry)) (now (s .entry)) ⌝ }
+// Rules 2.4 and 5.4: the code of the formula, 0 for another word.
+fn formula_code(line: &[u8]) -> u64
+    ensures { λ r. ⌜ coded r ≡ formulaOf (now (line .entry)) ⌝ }
 {
-    if starts(s, key) {
-        let k = key.len();
-        whole(&s[k..])
+    if same(line, b"formula=flat") {
+        return 1;
+    }
+    if same(line, b"formula=career") {
+        return 2;
+    }
+    if same(line, b"formula=final") {
+        return 3;
+    }
+    0
+}
+
+// Rules 2.7 and 5.4: the code of the method, 0 for another word.
+fn method_code(line: &[u8]) -> u64
+    ensures { λ r. ⌜ coded r ≡ methodOf (now (line .entry)) ⌝ }
+{
+    if same(line, b"method=AB") {
+        return 1;
+    }
+    if same(line, b"method=BD") {
+        return 2;
+    }
+    if same(line, b"method=BP") {
+        return 3;
+    }
+    if same(line, b"method=CD") {
+        return 4;
+    }
+    if same(line, b"method=CP") {
+        return 5;
+    }
+    0
+}
+
+fn word_code(line: &[u8], method: bool) -> u64
+    ensures { λ r. ⌜ coded r ≡ wordOf method (now (line .entry)) ⌝ }
+{
+    if method {
+        method_code(line)
     } else {
-        Number::Malformed
+        formula_code(line)
     }
 }
 
-// A line of a key and an amount.
-fn keyed_amount(s: &[u8], key: &[u8]) -> Number
-    ensures { λ r. ⌜ r ≡ keyedAmountOf (now (key .entry)) (now (s .entry)) ⌝ }
+// The line of the formula or of the method. Its code is written to the front of `values`.
+fn word_line(s: &[u8], method: bool, values: &mut Read) -> Line
+    ensures { λ r. ⌜ r ≡ lineOf (wordOf method) (now (s .entry)) ⌝ }
+    ensures { λ r. ⌜ ((e : ℕ) → r ≡ Good e → Held (wordOf method (uptoOf 10 (now (s .entry)))) 0 (now (values .exit))) ⌝ }
 {
-    if starts(s, key) {
-        let k = key.len();
-        amount(&s[k..])
-    } else {
-        Number::Malformed
+    let e = seek(s, 10);
+    if s.len() <= e {
+        return Line::Cut;
     }
+    let code = word_code(&s[..e], method);
+    if code == 0 {
+        return Line::Wrong;
+    }
+    *values = [code, 0, 0, 0, 0];
+    Line::Good(e)
 }
 
-// The formula by its code.
-fn formula(s: &[u8]) -> Number
-    ensures { λ r. ⌜ r ≡ formulaOf (now (s .entry)) ⌝ }
-{
-    if same(s, b"formula=flat") {
-        return Number::Value(1);
-    }
-    if same(s, b"formula=career") {
-        return Number::Value(2);
-    }
-    if same(s, b"formula=final") {
-        return Number::Value(3);
-    }
-    Number::Malformed
-}
-
-// The method by its code.
-fn method(s: &[u8]) -> Number
-    ensures { λ r. ⌜ r ≡ methodOf (now (s .entry)) ⌝ }
-{
-    if same(s, b"method=AB") {
-        return Number::Value(1);
-    }
-    if same(s, b"method=BD") {
-        return Number::Value(2);
-    }
-    if same(s, b"method=BP") {
-        return Number::Value(3);
-    }
-    if same(s, b"method=CD") {
-        return Number::Value(4);
-    }
-    if same(s, b"method=CP") {
-        return Number::Value(5);
-    }
-    Number::Malformed
-}
-
-// The value of line k, from 1 to 8.
-fn term(s: &[u8], k: u64) -> Number
-    ensures { λ r. ⌜ r ≡ termOf k (now (s .entry)) ⌝ }
+// The line of the term with k before it. Its value is written to the front of `values`.
+fn term_line(s: &[u8], k: usize, values: &mut Read) -> Line
+    ensures { λ r. ⌜ r ≡ lineOf (termForm k) (now (s .entry)) ⌝ }
+    ensures { λ r. ⌜ ((e : ℕ) → r ≡ Good e → Held (termForm k (uptoOf 10 (now (s .entry)))) 0 (now (values .exit))) ⌝ }
 {
     match k {
-        1 => keyed(s, b"interest="),
-        2 => keyed(s, b"retire="),
-        3 => formula(s),
-        4 => keyed(s, b"unit="),
-        5 => keyed(s, b"average="),
-        6 => method(s),
-        7 => keyed_amount(s, b"assets="),
-        8 => keyed(s, b"years="),
-        _ => Number::Malformed,
+        0 => keyed_line(s, b"interest=", 0, false, values),
+        1 => keyed_line(s, b"retire=", 0, false, values),
+        2 => word_line(s, false, values),
+        3 => keyed_line(s, b"unit=", 0, false, values),
+        4 => keyed_line(s, b"average=", 0, false, values),
+        5 => word_line(s, true, values),
+        6 => keyed_line(s, b"assets=", 0, true, values),
+        7 => keyed_line(s, b"years=", 0, false, values),
+        _ => unread(s),
     }
 }
 
-// The range rule of line k, after the formula of line 3: a number, 0 for none.
-fn term_rule(k: u64, formula: u64, v: u64) -> u64
-    ensures { λ r. ⌜ r ≡ termRule k formula v ⌝ }
+// The range rule of a term where the ranges are settled: a number, 0 for none.
+fn term_refusal(ranges: bool, k: usize, terms: &Terms, v: u64) -> u64
+    ensures { λ r. ⌜ r ≡ settled ranges (termRule k (now (terms .entry)) v) ⌝ }
 {
-    match k {
-        1 => interest_rule(v),
-        2 => retire_rule(v),
-        3 => formula_rule(v),
-        4 => unit_rule(formula, v),
-        5 => average_rule(formula, v),
-        6 => method_rule(v),
-        7 => assets_rule(v),
-        _ => years_rule(v),
-    }
+    if ranges { term_rule(k, terms, v) } else { 0 }
 }
 
-// The same where the ranges are settled.
-fn term_refusal(ranges: bool, k: u64, formula: u64, v: u64) -> u64
-    ensures { λ r. ⌜ r ≡ settled ranges (termRule k formula v) ⌝ }
+// Reads the terms, and settles their ranges too where that is asked for.
+pub(crate) fn head_lines(s: &[u8], ranges: bool, terms: &mut Terms) -> Part
+    ensures { λ r. ⌜ HeadIs ranges (now (s .entry)) r (now (terms .exit)) ⌝ }
 {
-    if ranges { term_rule(k, formula, v) } else { 0 }
-}
-
-// The formula that the lines up to k give.
-fn formula_from(k: u64, formula: u64, v: u64) -> u64
-    ensures { λ r. ⌜ r ≡ formulaFrom k formula v ⌝ }
-{
-    if k == 3 { v } else { formula }
-}
-
-fn plan_of(terms: [u64; 8]) -> Plan
-    ensures { λ r. ⌜ r ≡ planOf terms ⌝ }
-{
-    Plan {
-        interest: terms[0],
-        retire: terms[1],
-        formula: terms[2],
-        unit: terms[3],
-        average: terms[4],
-        method: terms[5],
-        assets: terms[6],
-        years: terms[7],
-    }
-}
-
-// The terms as a plan, or the first refusal's number and line.
-pub enum Heading {
-    Terms(Plan),
-    Refused(u64, u64),
-}
-
-// Reads lines 1 to 8, and settles their ranges too where that is asked for.
-pub fn head_lines(s: &[u8], ranges: bool) -> Heading
-    ensures { λ r. ⌜ r ≡ headed (headOf ranges 8 1 0 (now (s .entry))) ⌝ }
-{
-    let mut terms = [0u64; 8];
-    let mut rest = s;
-    let mut left: u64 = 8;
-    let mut k: u64 = 1;
-    let mut formula: u64 = 0;
-    while 0 < left {
-        let e = seek(rest, 10);
-        if rest.len() <= e {
-            return Heading::Refused(2, k);
+    // Nothing that the caller left there is taken for a term.
+    *terms = [0u64; 8];
+    let mut values = [0u64; 5];
+    let mut line: u64 = 1;
+    let mut at = 0;
+    let mut k = 0;
+    while k < 8 {
+        match term_line(from(s, at), k, &mut values) {
+            Line::Good(e) => {
+                let v = values[0];
+                let refusal = term_refusal(ranges, k, terms, v);
+                if refusal != 0 {
+                    return Part::Refused(refusal, line);
+                }
+                terms[k] = v;
+                at += e + 1;
+            }
+            Line::Wrong => {
+                return Part::Refused(10, line);
+            }
+            Line::Cut => {
+                return Part::Refused(2, line);
+            }
         }
-        let Number::Value(v) = term(line(rest, e), k) else {
-            return Heading::Refused(10, k);
-        };
-        let refusal = term_refusal(ranges, k, formula, v);
-        if refusal != 0 {
-            return Heading::Refused(refusal, k);
-        }
-        let i = (k - 1) as usize;
-        terms[i] = v;
-        formula = formula_from(k, formula, v);
-        let next = after_line(rest, e);
-        rest = next;
+        line += 1;
         k += 1;
-        left -= 1;
     }
-    Heading::Terms(plan_of(terms))
+    Part::Done(line, at)
 }

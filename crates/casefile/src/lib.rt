@@ -1,28 +1,35 @@
 // The case file of a valuation, RULES sections 1 to 5: reading is for its form (rule 5.1), accepting for its ranges too
-// (rule 5.2). The walk is one, line by line: heading.rt, rows.rt, members.rt, over text.rt and numbers.rt. Every answer
-// is an equation with a definition of specs/ on the list of the bytes; quick.rt alone may leave a line to the others. The
-// range rules are the plan crate's. The entries are read_case and accept_case: two words, two functions, two answers.
-// Neither has a `requires`.
+// (rule 5.2). The crate walk says what a case file is; here the walk is done, part by part: heading.rt, rows.rt,
+// members.rt. A part is a stretch of the walk: it starts at a given line on given bytes, and answers the line after it and
+// the place where the next part begins (specs/Stretches.antt). The entries are read_case and accept_case: two words, two
+// functions, two answers. Neither has a `requires`.
 mod heading;
 mod members;
-mod numbers;
-mod quick;
 mod rows;
-mod text;
 
-use crate::heading::Heading;
 use crate::heading::head_lines;
 use crate::members::Count;
 use crate::members::member_lines;
-use crate::rows::Table;
 use crate::rows::row_lines;
-use crate::text::lines_past;
+use annuity::Rows;
+use fields::text::from;
+use plan::Members;
 use plan::Plan;
+use plan::Terms;
+use plan::terms::plan_from;
 ghost use mathlib.Core.Path.{_≡_};
-ghost use mathlib.Core.Bool.{true};
-ghost use Rattle.casefile.specs.Outcome.{values};
-ghost use Rattle.casefile.specs.Case.{Case, walkOf, readingOf, acceptingOf, accepting};
-ghost use Rattle.casefile.specs.Stored.{walked, Holds, rowsAfter, membersAfter};
+ghost use Rattle.casefile.specs.Answers.{readingOf, acceptingOf, accepting};
+ghost use Rattle.casefile.specs.Stored.{rowsAfter, membersAfter};
+ghost use Prim.Native.Nat.{_≤_};
+ghost use Rattle.walk.specs.Step.{table};
+ghost use Rattle.walk.specs.Walk.{walkFrom, walkOf};
+ghost use Rattle.casefile.specs.Stretches.{headed, HeadKept, WalkIs};
+
+// What a part of the walk gives: the line after it and the place where the next part begins; or a refusal's number and line.
+pub enum Part {
+    Done(u64, usize),
+    Refused(u64, u64),
+}
 
 // What the walk gives: the plan and the count of members, or the first refusal's number and line.
 enum Walk {
@@ -32,27 +39,40 @@ enum Walk {
 
 // One walk over the lines, for their form alone or for their ranges too. The two arrays are left open after a refusal, and
 // where the ranges are not settled.
-fn walk_lines(
-    case: &[u8],
-    ranges: bool,
-    rows: &mut [[u32; 4]; 106],
-    members: &mut [u64; 4000],
-) -> Walk
-    ensures { λ r. ⌜ r ≡ walked (walkOf ranges (now (case .entry))) ⌝ }
-    ensures { λ r. ⌜ (ranges ≡ true → (c : Case) → walkOf true (now (case .entry)) ≡ values c → Holds c (now (rows .exit)) (now (members .exit))) ⌝ }
+fn walk_lines(case: &[u8], ranges: bool, rows: &mut Rows, members: &mut Members) -> Walk
+    ensures { λ r. ⌜ WalkIs ranges (walkOf ranges (now (case .entry))) r (now (rows .exit)) (now (members .exit)) ⌝ }
 {
     if 65_536 < case.len() {
         return Walk::Refused(1, 0);
     }
-    match head_lines(case, ranges) {
-        Heading::Terms(p) => match row_lines(lines_past(case, 8), ranges, rows) {
-            Table::Full => match member_lines(lines_past(case, 114), ranges, p, *rows, members) {
+    let mut terms = [0u64; 8];
+    match head_lines(case, ranges, &mut terms) {
+        Part::Done(line, at) => { walk_table(from(case, at), line, ranges, &terms, rows, members) }
+        Part::Refused(number, line) => Walk::Refused(number, line),
+    }
+}
+
+// The walk from the table on, after a heading.
+fn walk_table(
+    s: &[u8],
+    line: u64,
+    ranges: bool,
+    terms: &Terms,
+    rows: &mut Rows,
+    members: &mut Members,
+) -> Walk
+    requires { ⌜ HeadKept ranges (now terms) × (line ≤ 65536) ⌝ }
+    ensures { λ r. ⌜ WalkIs ranges (walkFrom ranges line (table (headed (now (terms .entry)))) (now (s .entry))) r (now (rows .exit)) (now (members .exit)) ⌝ }
+{
+    match row_lines(s, line, ranges, rows) {
+        Part::Done(next, at) => {
+            let p = plan_from(terms);
+            match member_lines(from(s, at), next, ranges, p, rows, members) {
                 Count::Members(n) => Walk::Whole(p, n),
-                Count::Refused(number, line) => Walk::Refused(number, line),
-            },
-            Table::Refused(number, line) => Walk::Refused(number, line),
-        },
-        Heading::Refused(number, line) => Walk::Refused(number, line),
+                Count::Refused(number, place) => Walk::Refused(number, place),
+            }
+        }
+        Part::Refused(number, place) => Walk::Refused(number, place),
     }
 }
 
@@ -67,7 +87,7 @@ pub fn read_case(case: &[u8]) -> Reading
     ensures { λ r. ⌜ r ≡ readingOf (now (case .entry)) ⌝ }
 {
     let mut rows = [[0u32; 4]; 106];
-    let mut members = [0u64; 4000];
+    let mut members = [[0u64; 4]; 1000];
     match walk_lines(case, false, &mut rows, &mut members) {
         Walk::Whole(_, _) => Reading::Read,
         Walk::Refused(number, line) => Reading::Refused(number, line),
@@ -81,15 +101,15 @@ pub enum Accepting {
 }
 
 // Rule 5.2: accepts a case file, its form and its ranges. An accepted case is copied out, its table to `rows` and its
-// members to `members`: the id, entry, age and salary of member j at places 4j to 4j + 3, and zeros past the last. A
-// refusal leaves both arrays as they were.
-pub fn accept_case(case: &[u8], rows: &mut [[u32; 4]; 106], members: &mut [u64; 4000]) -> Accepting
+// members to `members`: the id, entry, age and salary of member j at place j, and zeros past the last. A refusal leaves
+// both arrays as they were.
+pub fn accept_case(case: &[u8], rows: &mut Rows, members: &mut Members) -> Accepting
     ensures { λ r. ⌜ r ≡ accepting (acceptingOf (now (case .entry))) ⌝ }
     ensures { λ _. ⌜ now (rows .exit) ≡ rowsAfter (acceptingOf (now (case .entry))) (now (rows .entry)) ⌝ }
     ensures { λ _. ⌜ now (members .exit) ≡ membersAfter (acceptingOf (now (case .entry))) (now (members .entry)) ⌝ }
 {
     let mut table = [[0u32; 4]; 106];
-    let mut array = [0u64; 4000];
+    let mut array = [[0u64; 4]; 1000];
     match walk_lines(case, true, &mut table, &mut array) {
         Walk::Whole(p, n) => {
             *rows = table;

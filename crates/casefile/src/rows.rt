@@ -1,112 +1,55 @@
-// The table, RULES section 3: lines 9 to 114, a row for each age from 15 to 120.
-use crate::numbers::Number;
-use crate::numbers::Three;
-use crate::numbers::fourth;
-use crate::numbers::three_fields;
-use crate::numbers::whole;
-use crate::quick::QuickRow;
-use crate::quick::quick_row;
-use crate::text::after_line;
-use crate::text::line;
-use crate::text::past;
-use crate::text::seek;
-use crate::text::starts;
-use crate::text::upto;
+// The table, RULES section 3: a row for each age from 15 to 120.
+use crate::Part;
+use annuity::Rows;
+use fields::lines::Line;
+use fields::lines::Read;
+use fields::lines::keyed_line;
+use fields::text::from as bytes_from;
 use plan::rules::Row;
 use plan::rules::row_rule;
 ghost use mathlib.Core.Path.{_≡_};
-ghost use Rattle.casefile.specs.Outcome.{settled};
-ghost use Rattle.casefile.specs.Rows.{ratesOf, rowOf, rowRule, rowsOf};
-ghost use Rattle.casefile.specs.Quick.{NextRowIs};
-ghost use Rattle.casefile.specs.Stored.{narrowOf, tabled, in32};
+ghost use Prim.Native.Nat.{ℕ, _≤_};
+ghost use Rattle.fields.specs.declared.lines.Line.the-variants.{Good};
+ghost use Rattle.fields.specs.Split.{uptoOf};
+ghost use Rattle.fields.specs.Values.{lineOf};
+ghost use Rattle.plan.specs.Rules.{firstOf};
+ghost use Rattle.plan.specs.Acceptance.{rowRules, rowNumbers};
+ghost use Rattle.walk.specs.Outcome.{settled};
+ghost use Rattle.walk.specs.Lines.{rowOf};
+ghost use Rattle.casefile.specs.Stored.{each};
+ghost use Rattle.casefile.specs.Narrow.{fourOf, RowHeld, narrowOf};
+ghost use Rattle.casefile.specs.Stretches.{RowsAre};
 
-// What a row's line holds: its numbers, as wide as they stand there, or a wrong form.
-pub enum RowForm {
-    Rates(u64, u64, u64, u64),
-    Wrong,
-}
-
-// Four whole numbers with commas between.
-fn rates(s: &[u8]) -> RowForm
-    ensures { λ r. ⌜ r ≡ ratesOf (now (s .entry)) ⌝ }
+// The line of an age's row. Its age and its four numbers are written to `values`.
+fn row_line(s: &[u8], age: u64, values: &mut Read) -> Line
+    ensures { λ r. ⌜ r ≡ lineOf (rowOf age) (now (s .entry)) ⌝ }
+    ensures { λ r. ⌜ ((e : ℕ) → r ≡ Good e → RowHeld (rowOf age (uptoOf 10 (now (s .entry)))) (now (values .exit))) ⌝ }
 {
-    let Three::Found(death, withdrawal, disability) = three_fields(s) else {
-        return RowForm::Wrong;
-    };
-    let Number::Value(weight) = whole(fourth(s)) else {
-        return RowForm::Wrong;
-    };
-    RowForm::Rates(death, withdrawal, disability, weight)
-}
-
-// The row of an age, from a line without its byte 10.
-fn row_line(s: &[u8], age: u64) -> RowForm
-    ensures { λ r. ⌜ r ≡ rowOf age (now (s .entry)) ⌝ }
-{
-    if starts(s, b"row=") {
-        let t = &s[4..];
-        let Number::Value(a) = whole(upto(t, 44)) else {
-            return RowForm::Wrong;
-        };
-        if a == age {
-            rates(past(t, 44))
-        } else {
-            RowForm::Wrong
+    match keyed_line(s, b"row=", 4, false, values) {
+        Line::Good(e) => {
+            if values[0] == age {
+                Line::Good(e)
+            } else {
+                Line::Wrong
+            }
         }
-    } else {
-        RowForm::Wrong
-    }
-}
-
-// The next line and the place of its byte 10; or it is cut off before one.
-pub enum NextRow {
-    Line(RowForm, usize),
-    Cut,
-}
-
-// The next line, whatever it holds: its end first, and then its parts.
-fn careful_row(s: &[u8], age: u64) -> NextRow
-    ensures { λ r. ⌜ NextRowIs r (rowOf age) (now (s .entry)) ⌝ }
-{
-    let e = seek(s, 10);
-    if s.len() <= e {
-        return NextRow::Cut;
-    }
-    NextRow::Line(row_line(line(s, e), age), e)
-}
-
-// The next line, in one pass where it is the age's row in the right form.
-fn next_row(s: &[u8], age: u64) -> NextRow
-    ensures { λ r. ⌜ NextRowIs r (rowOf age) (now (s .entry)) ⌝ }
-{
-    match quick_row(s, age) {
-        QuickRow::Good(death, withdrawal, disability, weight, e) => {
-            NextRow::Line(RowForm::Rates(death, withdrawal, disability, weight), e)
-        }
-        QuickRow::Other => careful_row(s, age),
+        Line::Wrong => Line::Wrong,
+        Line::Cut => Line::Cut,
     }
 }
 
 // The range rules of a row where the ranges are settled: a number, 0 for none.
-fn row_refusal(
-    ranges: bool,
-    age: u64,
-    before: u64,
-    death: u64,
-    withdrawal: u64,
-    disability: u64,
-    weight: u64,
-) -> u64
-    ensures { λ r. ⌜ r ≡ settled ranges (rowRule age before death withdrawal disability weight) ⌝ }
+fn row_refusal(ranges: bool, age: usize, before: u64, values: &Read) -> u64
+    ensures { λ r. ⌜ r ≡ settled ranges (firstOf (rowRules age before (rowNumbers (fourOf (now (values .entry)))))) ⌝ }
 {
     if ranges {
         let row = Row {
-            death,
-            withdrawal,
-            disability,
-            weight,
+            death: values[1],
+            withdrawal: values[2],
+            disability: values[3],
+            weight: values[4],
         };
-        row_rule(age as usize, before, row)
+        row_rule(age, before, row)
     } else {
         0
     }
@@ -123,59 +66,50 @@ fn narrow(x: u64) -> u32
     }
 }
 
-// The table is full, or the first refusal's number and line.
-pub enum Table {
-    Full,
-    Refused(u64, u64),
+fn narrow_row(values: &Read) -> [u32; 4]
+    ensures { λ r. ⌜ r ≡ each narrowOf (fourOf (now (values .entry))) ⌝ }
+{
+    [
+        narrow(values[1]),
+        narrow(values[2]),
+        narrow(values[3]),
+        narrow(values[4]),
+    ]
 }
 
-// Reads the 106 rows into the table, up to the first that is refused. After a refusal the table is left open.
-pub fn row_lines(s: &[u8], ranges: bool, table: &mut [[u32; 4]; 106]) -> Table
-    ensures { λ r. ⌜ in32 (rowsOf ranges 106 15 0 (now (s .entry))) ≡ tabled r (now (table .exit)) ⌝ }
+// Reads the rows from a line on, up to the first that is refused, and settles their ranges too where that is asked for.
+// After a refusal the table is left open.
+pub(crate) fn row_lines(s: &[u8], from: u64, ranges: bool, rows: &mut Rows) -> Part
+    requires { ⌜ from ≤ 65536 ⌝ }
+    ensures { λ r. ⌜ RowsAre ranges from (now (s .entry)) r (now (rows .exit)) ⌝ }
 {
     // Nothing that the caller left there is taken for a row.
-    *table = [[0u32; 4]; 106];
-    let mut rest = s;
-    let mut left: u64 = 106;
-    let mut age: u64 = 15;
+    *rows = [[0u32; 4]; 106];
+    let mut values = [0u64; 5];
+    let mut line = from;
+    let mut at = 0;
+    let mut k: usize = 0;
     let mut before: u64 = 0;
-    while 0 < left {
-        let here = age - 6;
-        let NextRow::Line(form, e) = next_row(rest, age) else {
-            return Table::Refused(2, here);
-        };
-        match form {
-            RowForm::Rates(death, withdrawal, disability, weight) => {
-                let refusal = row_refusal(
-                    ranges,
-                    age,
-                    before,
-                    death,
-                    withdrawal,
-                    disability,
-                    weight,
-                );
+    while k < 106 {
+        match row_line(bytes_from(s, at), k as u64 + 15, &mut values) {
+            Line::Good(e) => {
+                let refusal = row_refusal(ranges, k + 15, before, &values);
                 if refusal != 0 {
-                    return Table::Refused(refusal, here);
+                    return Part::Refused(refusal, line);
                 }
-                let k = (age - 15) as usize;
-                let row = [
-                    narrow(death),
-                    narrow(withdrawal),
-                    narrow(disability),
-                    narrow(weight),
-                ];
-                table[k] = row;
-                before = weight;
+                rows[k] = narrow_row(&values);
+                before = values[4];
+                at += e + 1;
             }
-            RowForm::Wrong => {
-                return Table::Refused(10, here);
+            Line::Wrong => {
+                return Part::Refused(10, line);
+            }
+            Line::Cut => {
+                return Part::Refused(2, line);
             }
         }
-        let next = after_line(rest, e);
-        rest = next;
-        age += 1;
-        left -= 1;
+        line += 1;
+        k += 1;
     }
-    Table::Full
+    Part::Done(line, at)
 }

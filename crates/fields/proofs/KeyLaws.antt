@@ -13,7 +13,7 @@ use Rattle.fields.specs.declared.lines.Line.{Line}
 use Rattle.fields.specs.declared.lines.Line.the-variants.{Good, Wrong, Cut}
 use Rattle.fields.specs.Split.{seekOf, hasOf, uptoOf, startsOf}
 use Rattle.fields.specs.Numbers.{Number}
-use Rattle.fields.specs.Values.{Values, found, misread, valuesOf, keyedOf, ending, endOf, formed, lineOf}
+use Rattle.fields.specs.Values.{Values, Held, found, misread, valuesOf, keyedOf, ending, endOf, formed, lineOf}
 use Rattle.fields.proofs.SplitLaws.{off, and-true-left, and-true-right, lacks, lacks-more, lacks-has, after}
 
 -- a key that s begins with, and the rest
@@ -30,7 +30,7 @@ drop-key [] r = refl
 drop-key (k ∷ key) r = drop-key key r
 
 -- the line begins with what the bytes begin with
-starts-line : (key s : List ℕ) → lacks 10 key ≡ true → startsOf key (uptoOf 10 s) ≡ startsOf key s
+pub starts-line : (key s : List ℕ) → lacks 10 key ≡ true → startsOf key (uptoOf 10 s) ≡ startsOf key s
 unfolding uptoOf
 starts-line [] s free = refl
 starts-line (k ∷ key) [] free = refl
@@ -61,7 +61,7 @@ never-good false is e = let z : _≡_ {A = ℕ} 0 1 = cc in absurd (omega arith)
 -- what the line answers, with the array
 abbrev Answers : (holds : List ℕ → Values) → (n : ℕ) → List ℕ → Line → List ℕ → Type 0
 Answers holds n s r values =
-    (r ≡ lineOf holds s) × ((e : ℕ) → r ≡ Good e → holds (uptoOf 10 s) ≡ found (take (n + 1) values))
+    (r ≡ lineOf holds s) × ((e : ℕ) → r ≡ Good e → Held (holds (uptoOf 10 s)) n values)
 
 module _ (key : List ℕ) (last : List ℕ → Number) (n : ℕ) (s : List ℕ) (short : hasOf 10 key ≡ false) {b : Bool} (tested : b ≡ startsOf key s) where
   pub other-key : {l : Line} (values : List ℕ) → b ≡ false → l ≡ cond (hasOf 10 s) Wrong Cut → Answers (keyedOf key last n) n s l values
@@ -93,10 +93,10 @@ module _ (key : List ℕ) (last : List ℕ → Number) (n : ℕ) (s : List ℕ) 
           seek = ap (seekOf 10) split ∙ a .seek;
         }
 
-    pub key-good : {r : Place} {e : ℕ} (values : List ℕ) → r ≡ endOf (valuesOf last n) (length key) s → ((e : ℕ) → r ≡ At e → valuesOf last n (uptoOf 10 (drop (length key) s)) ≡ found (take (n + 1) values)) → r ≡ At e → Answers (keyedOf key last n) n s (Good e) values
+    pub key-good : {r : Place} {e : ℕ} (values : List ℕ) → r ≡ endOf (valuesOf last n) (length key) s → ((e : ℕ) → r ≡ At e → Held (valuesOf last n (uptoOf 10 (drop (length key) s))) n values) → r ≡ At e → Answers (keyedOf key last n) n s (Good e) values
     unfolding endOf lineOf
     key-good {r} {e} values read stored is =
-        (rw (rest .holds, rest .has, rest .seek) (at-good (hasOf 10 (drop (length key) s)) (valuesOf last n (uptoOf 10 (drop (length key) s))) (length key + seekOf 10 (drop (length key) s)) (sym is ∙ read)), λ k good. rest .holds ∙ stored e is)
+        (rw (rest .holds, rest .has, rest .seek) (at-good (hasOf 10 (drop (length key) s)) (valuesOf last n (uptoOf 10 (drop (length key) s))) (length key + seekOf 10 (drop (length key) s)) (sym is ∙ read)), λ k good. let h = stored e is in record { is = rest .holds ∙ h .is; size = h .size })
 
     pub key-wrong : {r : Place} {l : Line} (values : List ℕ) → r ≡ endOf (valuesOf last n) (length key) s → r ≡ Nowhere → l ≡ cond (hasOf 10 s) Wrong Cut → Answers (keyedOf key last n) n s l values
     unfolding endOf lineOf

@@ -5,3 +5,4 @@ pub mod LineLaws
 pub mod AmountLaws
 pub mod ValueLaws
 pub mod KeyLaws
+pub mod AnswerLaws

@@ -3,8 +3,8 @@ use Prim.Native.Nat.{ℕ, zero, suc, _+_, _-_, _≤_, _<_}
 use mathlib.Core.Path.{_≡_, refl, sym, ap, _∙_}
 use mathlib.Core.List.{List, [], _∷_, _++_}
 use mathlib.Core.Bool.{Bool, true, false, cond, not, _&&_}
-use lib.ListN.{length, getD, take, drop, drop-of-length-le, length-append}
-use lib.Seq.{drop-cons, take-append-seam, drop-append-add}
+use lib.ListN.{length, getD, take, drop, drop-of-length-le, length-drop}
+use lib.Seq.{drop-cons, take-all}
 use lib.Dec.{leb, ltb, eqb, leb·suc-suc}
 use native.Mathlib.Omega.{arith}
 use native.Mathlib.Numerals.{add-one}
@@ -144,3 +144,7 @@ module _ (s : List ℕ) {e : ℕ} (at : e ≡ seekOf 10 s) where
 
   pub not-cut : e < length s → Wrong ≡ cond (hasOf 10 s) Wrong Off
   not-cut h = rw (has-line h)
+
+-- a part that runs to the end
+pub rest-part : (s : List ℕ) (i : ℕ) → take (length s - i) (drop i s) ≡ drop i s
+rest-part s i = take-all (length s - i) (drop i s) (simp length-drop (omega arith))

@@ -13,7 +13,7 @@ use Rattle.fields.specs.declared.lines.Place.{Place}
 use Rattle.fields.specs.declared.lines.Place.the-variants.{At, Nowhere}
 use Rattle.fields.specs.Split.{seekOf, hasOf, uptoOf, pastOf}
 use Rattle.fields.specs.Numbers.{Number, value, malformed, wholeOf}
-use Rattle.fields.specs.Values.{Values, found, misread, before, valuesOf, placed, fieldOf, ending, endOf}
+use Rattle.fields.specs.Values.{Values, Held, found, misread, before, valuesOf, placed, fieldOf, ending, endOf}
 use Rattle.fields.proofs.LineLaws.{field-is, field-before, field-not, placed-not}
 
 -- some values before others
@@ -45,7 +45,7 @@ ends-not false e = refl
 -- what a line answers when its values are read, with the array
 abbrev Answers : (holds : List ℕ → Values) → (n i : ℕ) → List ℕ → Place → List ℕ → Type 0
 Answers holds n i s r values =
-    (r ≡ endOf holds i s) × ((e : ℕ) → r ≡ At e → holds (uptoOf 10 (drop i s)) ≡ found (take (n + 1) values))
+    (r ≡ endOf holds i s) × ((e : ℕ) → r ≡ At e → Held (holds (uptoOf 10 (drop i s))) n values)
 
 -- k of n commas are passed, the line goes on at place `at`, and the array holds k values
 pub record Commas (last : List ℕ → Number) (n i : ℕ) (s : List ℕ) (k at : ℕ) (values : List ℕ) : Type 0 where
@@ -106,7 +106,7 @@ module _ {last : List ℕ → Number} {n i : ℕ} {s : List ℕ} {k at : ℕ} {v
         let f = field-is last 10 at s read is in
         let whole : valuesOf last n (uptoOf 10 (drop i s)) ≡ found (take (n + 1) (set values n v)) = on-last ∙ rw (f .is, stored values n v (omega (arith, c .size))) in
         let place : i + seekOf 10 (drop i s) ≡ e = c .seek10 ∙ sym (f .place) in
-        (sym (rw (c .has10 ∙ f .has, whole, place)), λ e at. whole)
+        (sym (rw (c .has10 ∙ f .has, whole, place)), λ e at. record { is = whole; size = length-set values n v ∙ c .size })
 
     pub last-wrong : r ≡ NotField → Answers (valuesOf last n) n i s Nowhere values
     unfolding fieldOf endOf

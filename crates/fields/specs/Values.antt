@@ -1,8 +1,9 @@
 -- A line of values: a key, whole numbers with a comma after each, and a last value up to the line's end (rules 2.1, 3.1, 4.1 and 4.6).
 use Prim.Native.Nat.{ℕ, zero, suc, _+_}
+use mathlib.Core.Path.{_≡_}
 use mathlib.Core.List.{List, [], _∷_}
 use mathlib.Core.Bool.{Bool, cond}
-use lib.ListN.{length, drop}
+use lib.ListN.{length, take, drop}
 use Rattle.fields.specs.declared.numbers.Field.{Field}
 use Rattle.fields.specs.declared.numbers.Field.the-variants.{Is, NotField}
 use Rattle.fields.specs.declared.lines.Line.{Line}
@@ -37,6 +38,11 @@ abbrev pub lastOf : (amount : Bool) → List ℕ → Number
 lastOf amount s = cond amount (amountOf s) (wholeOf s)
 
 -- ---- what the code answers
+-- the values of a line stand at the front of an array of five
+pub record Held (x : Values) (n : ℕ) (values : List ℕ) : Type 0 where
+  pub is : x ≡ found (take (n + 1) values)
+  pub size : length values ≡ 5
+
 -- the number from place i up to the first byte b, and the place of that byte
 abbrev pub placed : Number → ℕ → Field
 placed (value v) e = Is v e

@@ -6,12 +6,12 @@ use crate::text::seek;
 use crate::text::starts;
 ghost use mathlib.Core.Path.{_≡_};
 ghost use mathlib.Core.Bool.{false, cond};
-ghost use Prim.Native.Nat.{ℕ, _+_, _≤_};
-ghost use lib.ListN.{take, drop};
+ghost use Prim.Native.Nat.{ℕ, _≤_};
+ghost use lib.ListN.{drop};
 ghost use Rattle.fields.specs.declared.lines.Line.the-variants.{Good, Wrong, Cut};
 ghost use Rattle.fields.specs.declared.lines.Place.the-variants.{At};
 ghost use Rattle.fields.specs.Split.{hasOf, uptoOf};
-ghost use Rattle.fields.specs.Values.{found, valuesOf, keyedOf, lastOf, endOf, lineOf};
+ghost use Rattle.fields.specs.Values.{Held, valuesOf, keyedOf, lastOf, endOf, lineOf};
 
 // The values of the longest line: a row's.
 pub type Read = [u64; 5];
@@ -33,7 +33,7 @@ pub enum Place {
 fn values_at(s: &[u8], i: usize, n: usize, amount: bool, values: &mut Read) -> Place
     requires { ⌜ n ≤ 4 ⌝ }
     ensures { λ r. ⌜ r ≡ endOf (valuesOf (lastOf amount) n) i (now (s .entry)) ⌝ }
-    ensures { λ r. ⌜ ((e : ℕ) → r ≡ At e → valuesOf (lastOf amount) n (uptoOf 10 (drop i (now (s .entry)))) ≡ found (take (n + 1) (now (values .exit)))) ⌝ }
+    ensures { λ r. ⌜ ((e : ℕ) → r ≡ At e → Held (valuesOf (lastOf amount) n (uptoOf 10 (drop i (now (s .entry))))) n (now (values .exit))) ⌝ }
 {
     // Nothing that the caller left there is taken for a value.
     *values = [0u64; 5];
@@ -54,8 +54,8 @@ fn values_at(s: &[u8], i: usize, n: usize, amount: bool, values: &mut Read) -> P
     Place::At(e)
 }
 
-// A line whose form is not right: it is cut off, or it is wrong.
-fn unread(s: &[u8]) -> Line
+// A line whose form is not right: it is wrong, or it is cut off.
+pub fn unread(s: &[u8]) -> Line
     ensures { λ r. ⌜ r ≡ cond (hasOf 10 (now (s .entry))) Wrong Cut ⌝ }
 {
     if seek(s, 10) < s.len() {
@@ -70,7 +70,7 @@ fn unread(s: &[u8]) -> Line
 pub fn keyed_line(s: &[u8], key: &[u8], n: usize, amount: bool, values: &mut Read) -> Line
     requires { ⌜ (n ≤ 4) × (hasOf 10 (now key) ≡ false) ⌝ }
     ensures { λ r. ⌜ r ≡ lineOf (keyedOf (now (key .entry)) (lastOf amount) n) (now (s .entry)) ⌝ }
-    ensures { λ r. ⌜ ((e : ℕ) → r ≡ Good e → keyedOf (now (key .entry)) (lastOf amount) n (uptoOf 10 (now (s .entry))) ≡ found (take (n + 1) (now (values .exit)))) ⌝ }
+    ensures { λ r. ⌜ ((e : ℕ) → r ≡ Good e → Held (keyedOf (now (key .entry)) (lastOf amount) n (uptoOf 10 (now (s .entry)))) n (now (values .exit))) ⌝ }
 {
     if starts(s, key) {
         let k = key.len();

@@ -1,5 +1,7 @@
 // Text: where a byte first stands, and the words that it begins with.
 ghost use mathlib.Core.Path.{_≡_};
+ghost use Prim.Native.Nat.{_≤_};
+ghost use lib.ListN.{length, drop};
 ghost use Rattle.fields.specs.Split.{seekOf, startsOf, sameOf};
 
 // The place of the first byte b of s, or the length of s where it has none.
@@ -42,4 +44,12 @@ pub fn same(s: &[u8], key: &[u8]) -> bool
     } else {
         false
     }
+}
+
+// What stands from place i on.
+pub fn from(s: &[u8], i: usize) -> &[u8]
+    requires { ⌜ i ≤ length (now s) ⌝ }
+    ensures { λ r. ⌜ now r ≡ drop i (now (s .entry)) ⌝ }
+{
+    &s[i..]
 }

@@ -44,7 +44,7 @@ refusal-of-both (suc a ∷ rules) others = simp (ne-eqb (suc a) 0 (λ e. omega a
 both-refusals : (rules others : List ℕ) → firstOf (rules ++ others) ≡ 0 → (firstOf rules ≡ 0) × (firstOf others ≡ 0)
 both-refusals rules others e = passed (firstOf rules) (firstOf others) (sym (refusal-of-both rules others) ∙ e)
 
-kept : (t : Bool) (n : ℕ) → unless t (suc n) ≡ 0 → t ≡ true
+pub kept : (t : Bool) (n : ℕ) → unless t (suc n) ≡ 0 → t ≡ true
 kept true n e = refl
 kept false n e = absurd (omega arith)
 

@@ -45,3 +45,6 @@ pub struct Member {
     pub age: u64,
     pub salary: u64,
 }
+
+// Rule 4.1: up to 1,000 members, each by its id, entry age, age and salary.
+pub type Members = [[u64; 4]; 1000];

@@ -15,7 +15,7 @@ use Rattle.plan.specs.Acceptance.{TermRule, termRules, termRule, termsOf, judge
 use Rattle.plan.proofs.Facts.{All-kept, all-kept, kept-all}
 use Rattle.walk.specs.Outcome.{Outcome, values, refusal}
 use Rattle.walk.specs.Terms.{termForms, termRefusal}
-use Rattle.walk.specs.Lines.{dueAge, rowRefusal}
+use Rattle.walk.specs.Lines.{ages, dueAge, rowRefusal}
 use Rattle.walk.specs.Step.{Head, State, heading, table, people, ended, lastId, personRefusal}
 use Rattle.walk.specs.Walk.{Case, linesOf, restOf, caseOf, closed, folded, start, walkFrom, walkOf}
 use Rattle.walk.specs.Kept.{EachAfter, Each, Kept, nobody, idBefore, AcceptedCase}
@@ -101,26 +101,26 @@ id-at (m ∷ []) (suc (suc j)) h = absurd (omega arith)
 id-at (m ∷ n ∷ l) (suc (suc j)) h = id-at (n ∷ l) (suc j) (omega arith)
 
 -- ---- a whole case
-module _ (h : Head) (members : List Member) (k : ℕ) (sized : Sized k (ended h members)) where
-  plan-kept : (planRefusal (planFrom (h .terms)) (h .rows) ≡ 0) ↔ (Each termRefusal (h .terms) × Each rowRefusal (h .rows))
-  unfolding planRefusal
-  plan-kept =
-      let rules = both (firstOf (headRules (planFrom (h .terms)))) (rowsRefusal (h .rows) 15 106) in
-      let head = head-kept (h .terms) (sized .1) in
-      let lines = rw (sized .2) at (rows-kept [] (h .rows)) in
-      ((λ e. let k = rules .0 e in (head .1 (k .0), lines .1 (k .1))), (λ k. rules .1 (head .0 (k .0), lines .0 (k .1))))
+pub plan-kept : (t : List ℕ) (rows : List (List ℕ)) → length t ≡ length termForms → length rows ≡ ages → (planRefusal (planFrom t) rows ≡ 0) ↔ (Each termRefusal t × Each rowRefusal rows)
+unfolding planRefusal
+plan-kept t rows all full =
+    let rules = both (firstOf (headRules (planFrom t))) (rowsRefusal rows 15 106) in
+    let head = head-kept t all in
+    let lines = rw full at (rows-kept [] rows) in
+    ((λ e. let k = rules .0 e in (head .1 (k .0), lines .1 (k .1))), (λ k. rules .1 (head .0 (k .0), lines .0 (k .1))))
 
+module _ (h : Head) (members : List Member) (k : ℕ) (sized : Sized k (ended h members)) where
   case-kept : Kept (ended h members) ↔ AcceptedCase (caseOf h members)
   case-kept = (
     (λ k.
         record {
-          plan = plan-kept .1 (k .terms, k .rows);
+          plan = plan-kept (h .terms) (h .rows) (sized .1) (sized .2) .1 (k .terms, k .rows);
           ages = sized .2;
           few = sized .3;
           member = λ j low. rw (← id-at members j low) (each-at (personRefusal h) nobody [] members (k .members) j low);
         }),
     (λ a.
-        let p = plan-kept .0 (a .plan) in
+        let p = plan-kept (h .terms) (h .rows) (sized .1) (sized .2) .0 (a .plan) in
         record {
           terms = p .0;
           rows = p .1;

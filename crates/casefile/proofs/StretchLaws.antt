@@ -1,0 +1,46 @@
+-- A line of the walk as a loop passes it, once for every kind of line. `s` are the bytes from the line on, `x` what its range rules say
+-- where they are settled.
+use Prim.Native.Nat.{ℕ, _+_, _≤_, _<_}
+use mathlib.Core.Path.{_≡_, refl, sym, ap, _∙_}
+use mathlib.Core.List.{List}
+use mathlib.Core.Bool.{Bool, true, false}
+use lib.ListN.{length, drop, length-drop}
+use lib.Seq.{drop-drop}
+use native.Mathlib.Omega.{arith}
+use borrow.Author.Tests.{eq-eqb, ne-eqb}
+use Rattle.fields.specs.Split.{hasOf, uptoOf, pastOf}
+use Rattle.fields.proofs.AnswerLaws.{GoodLine}
+use Rattle.walk.specs.Outcome.{values, refusal, settled}
+use Rattle.walk.specs.Step.{State, Line, wrong, right, lineOf, step}
+use Rattle.walk.specs.Walk.{closed, walkFrom}
+use Rattle.walk.proofs.OutcomeLaws.{settled-none}
+use Rattle.walk.proofs.LineLaws.{from-line, from-end}
+
+module _ (ranges : Bool) (k : ℕ) (state : State) (s : List ℕ) where
+  pub line-cut : hasOf 10 s ≡ false → walkFrom ranges k state s ≡ closed k s state
+  line-cut none = from-end ranges k state s none
+
+  module _ (has : hasOf 10 s ≡ true) where
+    abbrev here : Line
+    here = lineOf state (uptoOf 10 s) (uptoOf 10 (pastOf 10 s))
+
+    pub line-wrong : {n : ℕ} → here ≡ wrong 0 n → walkFrom ranges k state s ≡ refusal n k
+    unfolding step
+    line-wrong is = from-line ranges k state s has ∙ rw (is, settled-none ranges)
+
+    module _ {r x : ℕ} {next : State} (is : here ≡ right r next) (rule : x ≡ settled ranges r) where
+      pub line-refused : (x ≡ 0 → ⊥) → walkFrom ranges k state s ≡ refusal x k
+      unfolding step
+      line-refused h = from-line ranges k state s has ∙ rw is (simp (sym rule, ne-eqb x 0 h))
+
+      pub line-passed : {rest : List ℕ} → x ≡ 0 → rest ≡ pastOf 10 s → walkFrom ranges k state s ≡ walkFrom ranges (k + 1) next rest
+      unfolding step
+      line-passed h on = from-line ranges k state s has ∙ rw (is, on) (simp (sym rule, eq-eqb x 0 h))
+
+-- the place after a line that begins at place `at`
+module _ (s : List ℕ) (at e : ℕ) (g : GoodLine (drop at s) e) where
+  pub next-rest : drop (at + (e + 1)) s ≡ pastOf 10 (drop at s)
+  next-rest = sym (drop-drop (e + 1) at s) ∙ g .rest
+
+  pub next-within : at + (e + 1) ≤ length s
+  next-within = omega (arith, g .within, length-drop at s)

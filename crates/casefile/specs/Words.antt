@@ -1,0 +1,13 @@
+-- What the code answers of a line that is a word: the code of the formula or of the method, 0 for none.
+use Prim.Native.Nat.{ℕ, zero, suc}
+use mathlib.Core.List.{List, [], _∷_}
+use mathlib.Core.Bool.{Bool, cond}
+use Rattle.fields.specs.Values.{Values, found, misread}
+use Rattle.walk.specs.Terms.{formulaOf, methodOf}
+
+abbrev pub coded : ℕ → Values
+coded zero = misread
+coded (suc code) = found (suc code ∷ [])
+
+abbrev pub wordOf : (method : Bool) → List ℕ → Values
+wordOf method line = cond method (methodOf line) (formulaOf line)
