@@ -4,3 +4,5 @@ pub mod StretchLaws
 pub mod HeadLaws
 pub mod RowLaws
 pub mod MemberLaws
+pub mod WalkLaws
+pub mod AnswerLaws

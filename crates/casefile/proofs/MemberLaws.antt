@@ -146,6 +146,7 @@ module _ {ranges : Bool} {p : Plan} {rows : List (List ℕ)} {from : ℕ} {s : L
           ∙ after-end ranges (from + count + 1) h (i .members) (drop (at + (e + 1)) s) ∙ rw (length-drop (at + (e + 1)) s)
 
     pub members-end : {c : Count} (after : ℕ) → after ≡ length s - (at + (e + 1)) → c ≡ ended (getD values 0 0) count (from + count) after → (h : Head) → Fits ranges p rows h → MembersAre ranges h from s c array
+    unfolding MembersAre
     members-end {c} after left answer h fits =
         rw (answer, left) (go (eqb (getD values 0 0) count) refl (eqb (length s - (at + (e + 1))) 0) refl)
       where

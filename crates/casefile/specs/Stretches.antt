@@ -42,7 +42,7 @@ pub record HeadDone (ranges : Bool) (s : List ℕ) (line at : ℕ) (terms : List
   pub within : at ≤ length s
   pub way : walkFrom ranges 1 start s ≡ walkFrom ranges line (table (headed terms)) (drop at s)
 
-abbrev pub HeadIs : (ranges : Bool) → List ℕ → Part → (terms : List ℕ) → Type 0
+unfoldable pub HeadIs : (ranges : Bool) → List ℕ → Part → (terms : List ℕ) → Type 0
 HeadIs ranges s (Done line at) terms = HeadDone ranges s line at terms
 HeadIs ranges s (Refused number line) terms = walkFrom ranges 1 start s ≡ refusal number line
 
@@ -57,7 +57,7 @@ pub record RowsDone (ranges : Bool) (from : ℕ) (s : List ℕ) (line at : ℕ) 
   pub within : at ≤ length s
   pub way : (terms : List ℕ) → walkFrom ranges from (table (headed terms)) s ≡ walkFrom ranges line (people (tabled terms rows) []) (drop at s)
 
-abbrev pub RowsAre : (ranges : Bool) → (from : ℕ) → List ℕ → Part → List (List ℕ) → Type 0
+unfoldable pub RowsAre : (ranges : Bool) → (from : ℕ) → List ℕ → Part → List (List ℕ) → Type 0
 RowsAre ranges from s (Done line at) array = RowsDone ranges from s line at array
 RowsAre ranges from s (Refused number line) array =
     (terms : List ℕ) → walkFrom ranges from (table (headed terms)) s ≡ refusal number line
@@ -69,7 +69,7 @@ pub record MembersDone (ranges : Bool) (h : Head) (from : ℕ) (s : List ℕ) (n
   pub held : array ≡ arrayOf members
   pub way : walkFrom ranges from (people h []) s ≡ values (caseOf h members)
 
-abbrev pub MembersAre : (ranges : Bool) → Head → (from : ℕ) → List ℕ → Count → List (List ℕ) → Type 0
+unfoldable pub MembersAre : (ranges : Bool) → Head → (from : ℕ) → List ℕ → Count → List (List ℕ) → Type 0
 MembersAre ranges h from s (Members n) array = MembersDone ranges h from s n array
 MembersAre ranges h from s (CountRefused number line) array = walkFrom ranges from (people h []) s ≡ refusal number line
 
@@ -88,6 +88,6 @@ pub record WalkDone (ranges : Bool) (o : Outcome Case) (p : Plan) (n : ℕ) (row
   pub table : ranges ≡ true → rows ≡ case .rows
   pub held : members ≡ arrayOf (case .members)
 
-abbrev pub WalkIs : (ranges : Bool) → Outcome Case → Walk → (rows members : List (List ℕ)) → Type 0
+unfoldable pub WalkIs : (ranges : Bool) → Outcome Case → Walk → (rows members : List (List ℕ)) → Type 0
 WalkIs ranges o (Whole p n) rows members = WalkDone ranges o p n rows members
 WalkIs ranges o (WalkRefused number line) rows members = o ≡ refusal number line

@@ -2,6 +2,7 @@
 use Prim.Native.Nat.{_-_}
 use native.Mathlib.Omega.{arith}
 use borrow.Author.Needs.{needs}
+use Rattle.casefile.specs.Stretches.{HeadIs}
 use Rattle.casefile.proofs.HeadLaws.{TermsRead, terms-none, terms-cut, terms-wrong, terms-refused, terms-place, terms-next, terms-done}
 use Rattle.casefile.proofs.heading.head_lines.Statement.{statement}
 use Rattle.casefile.proofs.heading.head_lines.Tie as tie
@@ -13,6 +14,7 @@ abbrev μ-loop : tie.MeasureT-loop
 μ-loop s ranges terms₀ values₀ line₀ at₀ k₀ terms values line at k = 8 - k
 
 pub head-lines-spec : {M : Type 1} → statement M
+unfolding HeadIs
 head-lines-spec =
     tie.close
     (tie.spec Inv-loop μ-loop (λ c. terms-none _ _ _ (search needs))

@@ -4,6 +4,7 @@ use mathlib.Core.Path.{refl}
 use lib.ListN.{length}
 use native.Mathlib.Omega.{arith}
 use borrow.Author.Needs.{needs}
+use Rattle.casefile.specs.Stretches.{MembersAre}
 use Rattle.casefile.proofs.MemberLaws.{MembersRead, members-none, members-cut, members-surplus, members-neither, end-place, end-size, members-end, person-place, room, members-refused, members-next}
 use Rattle.casefile.proofs.members.member_lines.Statement.{statement}
 use Rattle.casefile.proofs.members.member_lines.Tie as tie
@@ -16,6 +17,7 @@ abbrev μ-loop : tie.MeasureT-loop
 μ-loop s from ranges p rows members₀ values₀ at₀ count₀ before₀ members values at count before = 1000 - count
 
 pub member-lines-spec : {M : Type 1} → statement M
+unfolding MembersAre
 member-lines-spec =
     tie.close
     (tie.spec Inv-loop μ-loop (λ c. members-none _ _ _ _ _)

@@ -2,6 +2,7 @@
 use Prim.Native.Nat.{_-_}
 use native.Mathlib.Omega.{arith}
 use borrow.Author.Needs.{needs}
+use Rattle.casefile.specs.Stretches.{RowsAre}
 use Rattle.casefile.proofs.RowLaws.{RowsRead, rows-none, rows-cut, rows-wrong, rows-refused, rows-place, rows-next, rows-done}
 use Rattle.casefile.proofs.rows.row_lines.Statement.{statement}
 use Rattle.casefile.proofs.rows.row_lines.Tie as tie
@@ -14,6 +15,7 @@ abbrev μ-loop : tie.MeasureT-loop
 μ-loop s from ranges rows₀ values₀ line₀ at₀ k₀ before₀ rows values line at k before = 106 - k
 
 pub row-lines-spec : {M : Type 1} → statement M
+unfolding RowsAre
 row-lines-spec =
     tie.close
     (tie.spec Inv-loop μ-loop (λ c. rows-none _ _ _ _ (search needs))
