@@ -1,5 +1,4 @@
 -- `rounding::words::product` meets its contract.
-use borrow.Author.Needs.{needs}
 use mathlib.Core.Path.{_≡_, _∙_}
 use Prim.Native.Nat.{ℕ, _+_, _*_, _/_, _%_, _^_, _<_}
 use native.Mathlib.Omega.{arith}
@@ -38,15 +37,6 @@ mul-middle c = let s = small (c .args .a) (c .args .b) (omega arith) (omega arit
 mul-middle-2 : tie.Need-mul-middle-2
 mul-middle-2 c = let s = small (c .args .a) (c .args .b) (omega arith) (omega arith) in omega arith
 
-add-middle : tie.Need-add-middle
-add-middle c = search needs
-
-mul-wrapping-add-u64 : tie.Need-mul-wrapping-add-u64
-mul-wrapping-add-u64 c = search needs
-
-wrapping-add-u64-requires : tie.Need-wrapping-add-u64-requires
-wrapping-add-u64-requires c κs = search needs
-
 -- the low word, cut to 64 bits, of a sum of columns that is q * 2^64 + l
 middle : (x y : ℕ) → (x % 2 ^ 32 + y % 2 ^ 32) % 2 ^ 32 ≡ (x + y) % 2 ^ 32
 middle x y = omega arith
@@ -69,19 +59,5 @@ returns c =
 
 pub product-spec : {M : Type 1} → statement M
 product-spec =
-    tie.close
-    (tie.spec
-    mul-first
-    mul-second
-    add-second
-    mul-third
-    add-third
-    mul-high
-    add-high
-    add-high-2
-    mul-middle
-    mul-middle-2
-    add-middle
-    mul-wrapping-add-u64
-    wrapping-add-u64-requires
-    returns)
+    tie.close (tie.spec mul-first mul-second add-second mul-third add-third mul-high add-high add-high-2 mul-middle
+    mul-middle-2 (omega arith) (omega arith) (search) returns)
