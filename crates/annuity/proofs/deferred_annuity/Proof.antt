@@ -11,9 +11,6 @@ use borrow.Author.Needs.{needs}
 use Rattle.annuity.proofs.deferred_annuity.Statement.{statement}
 use Rattle.annuity.proofs.deferred_annuity.Tie as tie
 
-pension-requires : tie.Need-pension-requires
-pension-requires c κs = search needs
-
 fill-requires : tie.Need-fill-requires
 fill-requires c κs =
     let s = c .before in
@@ -27,4 +24,4 @@ returns c =
     filled-as (factor b Nothing (a .r) (pension b)) (G b) (a .r) (deferred-is b) (rw (c .before .pension .ensures) at (c .fill .ensures))
 
 pub deferred-annuity-spec : {M : Type 1} → statement M
-deferred-annuity-spec = tie.close (tie.spec pension-requires fill-requires returns)
+deferred-annuity-spec = tie.close (tie.spec (λ c κs. search needs) fill-requires returns)

@@ -8,9 +8,6 @@ use Rattle.annuity.proofs.Filling.{filled-as, life-is}
 use Rattle.annuity.proofs.life_annuity.Statement.{statement}
 use Rattle.annuity.proofs.life_annuity.Tie as tie
 
-fill-requires : tie.Need-fill-requires
-fill-requires c κs = search needs
-
 returns : tie.Need-returns
 returns c =
     let a = c .before .args in
@@ -18,4 +15,4 @@ returns c =
     filled-as (factor b One 120 S) (A b) 120 (life-is b) (c .fill .ensures)
 
 pub life-annuity-spec : {M : Type 1} → statement M
-life-annuity-spec = tie.close (tie.spec fill-requires returns)
+life-annuity-spec = tie.close (tie.spec (λ c κs. search needs) returns)

@@ -9,9 +9,6 @@ use Rattle.annuity.proofs.Filling.{filled-as, pay-is}
 use Rattle.annuity.proofs.pay_annuity.Statement.{statement}
 use Rattle.annuity.proofs.pay_annuity.Tie as tie
 
-fill-requires : tie.Need-fill-requires
-fill-requires c κs = search needs
-
 returns : tie.Need-returns
 returns c =
     let a = c .before .args in
@@ -19,4 +16,4 @@ returns c =
     filled-as (factor b Weight (a .e) 0) (λ (k : ℕ). Z b k (a .e)) (a .e) (pay-is b (a .e)) (c .fill .ensures)
 
 pub pay-annuity-spec : {M : Type 1} → statement M
-pay-annuity-spec = tie.close (tie.spec fill-requires returns)
+pay-annuity-spec = tie.close (tie.spec (λ c κs. search needs) returns)

@@ -9,9 +9,6 @@ use Rattle.annuity.proofs.Filling.{filled-as, working-is}
 use Rattle.annuity.proofs.working_annuity.Statement.{statement}
 use Rattle.annuity.proofs.working_annuity.Tie as tie
 
-fill-requires : tie.Need-fill-requires
-fill-requires c κs = search needs
-
 returns : tie.Need-returns
 returns c =
     let a = c .before .args in
@@ -19,4 +16,4 @@ returns c =
     filled-as (factor b One (a .e) 0) (λ (k : ℕ). T b k (a .e)) (a .e) (working-is b (a .e)) (c .fill .ensures)
 
 pub working-annuity-spec : {M : Type 1} → statement M
-working-annuity-spec = tie.close (tie.spec fill-requires returns)
+working-annuity-spec = tie.close (tie.spec (λ c κs. search needs) returns)
