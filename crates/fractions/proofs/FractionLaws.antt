@@ -26,14 +26,10 @@ cross-sums {a} {b} e =
 infixr 30 _∙≐_
 pub _∙≐_ : {a b c : Fraction} → a ≐ b → b ≐ c → a ≐ c
 _∙≐_ {a} {b} {c} e f =
-    record {
-      left = e .left;
-      right = f .right;
-      cross =
-          equal (of-times (c .lower) (of-itself (a .upper))) (of-times (a .lower) (of-itself (c .upper)))
-          (eq-of-mul-eq-mul-right (b .lower) (e .right) _ _
-          (omega (arith, ap (λ (n : ℕ). n * c .lower) (cross-sums e), ap (λ (n : ℕ). n * a .lower) (cross-sums f))));
-    }
+    let x = ap (λ (n : ℕ). n * c .lower) (cross-sums e) in
+    let y = ap (λ (n : ℕ). n * a .lower) (cross-sums f) in
+    let cross = equal (of-times (c .lower) (of-itself (a .upper))) (of-times (a .lower) (of-itself (c .upper))) in
+    record { left = e .left; right = f .right; cross = cross (eq-of-mul-eq-mul-right (b .lower) (e .right) _ _ (omega arith)) }
 
 -- ---- differences
 -- the upper part of a − b, where those of a and b are p − q and r − s
