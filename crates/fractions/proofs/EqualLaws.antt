@@ -36,12 +36,7 @@ zero-⊗ h = omega arith
 
 pub ⊕-⊗ : {a b c : Ratio} → Proper a → Proper b → Proper c → (a ⊕ b) ⊗ c ≈ a ⊗ c ⊕ b ⊗ c
 unfolding _⊗_ _⊕_
-⊕-⊗ ha hb hc =
-    record {
-      left = ⊗-proper (⊕-proper ha hb) hc;
-      right = ⊕-proper (⊗-proper ha hc) (⊗-proper hb hc);
-      cross = omega arith;
-    }
+⊕-⊗ ha hb hc = omega (arith, ⊗-proper (⊕-proper ha hb) hc, ⊕-proper (⊗-proper ha hc) (⊗-proper hb hc))
 
 pub cancel : {a b : Ratio} → Proper a → Proper b → Positive b → a ⊗ b ⊘ b ≈ a
 unfolding _⊗_ inverse

@@ -28,14 +28,14 @@ unfolding _⊕_
 ⊕-mono {a} {b} {c} {d} e f =
     let x = mul-le-mul-right (c .lower * d .lower) (e .cross) in
     let y = mul-le-mul-right (a .lower * b .lower) (f .cross) in
-    record { left = ⊕-proper (e .left) (f .left); right = ⊕-proper (e .right) (f .right); cross = omega arith }
+    omega (arith, ⊕-proper (e .left) (f .left), ⊕-proper (e .right) (f .right))
 
 pub ⊗-mono : {a b c d : Ratio} → a ≼ b → c ≼ d → a ⊗ c ≼ b ⊗ d
 unfolding _⊗_
 ⊗-mono {a} {b} {c} {d} e f =
     let x = mul-le-mul-right (c .upper * d .lower) (e .cross) in
     let y = mul-le-mul-right (b .upper * a .lower) (f .cross) in
-    record { left = ⊗-proper (e .left) (f .left); right = ⊗-proper (e .right) (f .right); cross = omega arith }
+    omega (arith, ⊗-proper (e .left) (f .left), ⊗-proper (e .right) (f .right))
 
 pub ≼-⊕ : {a b : Ratio} → Proper a → Proper b → a ≼ a ⊕ b
 unfolding _⊕_
