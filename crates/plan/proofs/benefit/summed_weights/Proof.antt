@@ -11,8 +11,7 @@ use Rattle.plan.proofs.benefit.summed_weights.Statement.{statement}
 use Rattle.plan.proofs.benefit.summed_weights.Tie as tie
 
 abbrev Inv-loop : tie.InvT-loop
-Inv-loop rows sums₀ j₀ sums j =
-    (j ≤ 105) × Upto (λ (k : ℕ). summed (weight rows) 15 (k - 15)) 15 (j + 16) sums
+Inv-loop rows sums₀ j₀ sums j = (j ≤ 105) × Upto (λ (k : ℕ). summed (weight rows) 15 (k - 15)) 15 (j + 16) sums
 
 abbrev μ-loop : tie.MeasureT-loop
 μ-loop rows sums₀ j₀ sums j = 105 - j

@@ -10,8 +10,7 @@ use Rattle.plan.proofs.benefit.weights_between.Statement.{statement}
 use Rattle.plan.proofs.benefit.weights_between.Tie as tie
 
 abbrev Inv-loop : tie.InvT-loop
-Inv-loop rows a b sum₀ k₀ sum k =
-    (a ≤ k) × (k ≤ b) × (sum ≡ summed (weight rows) a (k - a))
+Inv-loop rows a b sum₀ k₀ sum k = (a ≤ k) × (k ≤ b) × (sum ≡ summed (weight rows) a (k - a))
 
 abbrev μ-loop : tie.MeasureT-loop
 μ-loop rows a b sum₀ k₀ sum k = b - k
