@@ -1,6 +1,7 @@
 -- Payments of any yearly amounts w(k), w(k+1), .. at the start of each year, for those who stay, rounded and exact: what A, T, Z and C share.
 -- Beside them what is only carried back, as G is.
-use Prim.Native.Nat.{ℕ, suc, _+_, _*_, _≤_, _<_}
+use mathlib.Core.Path.{_≡_}
+use Prim.Native.Nat.{ℕ, _+_, _-_, _*_, _≤_, _<_}
 use native.Mathlib.Nat.{le-refl, add-zero, add-suc}
 use native.Mathlib.Omega.{arith}
 use Rattle.fractions.specs.Ratio.{Ratio, whole, _⊕_, Proper, Positive, _≼_}
@@ -9,7 +10,7 @@ use Rattle.fractions.proofs.OrderLaws.{zero-≼, ≼-refl, _∙≼_, ⊕-mono, 
 use Rattle.annuity.specs.Recursion.{carried}
 use Rattle.annuity.specs.Basis.{Basis, Fair}
 use Rattle.annuity.specs.Factors.{step, step*}
-use Rattle.annuity.proofs.Carried.{carried-both, carried-each, carried-split}
+use Rattle.annuity.proofs.Carried.{carried-before, carried-both, carried-each, carried-split}
 use Rattle.annuity.proofs.Distance.{Halves, Part}
 use Rattle.annuity.proofs.YearStep.{step-mono, step-shrinks, exact-step-shrinks, step-halves, step-part}
 
@@ -34,13 +35,12 @@ module _ (b : Basis) where
       carried-each (λ m f. Proper f) (paying* w) _ h k n (λ j m from to f g. ⊕-proper (whole-proper (w j)) (step*-proper j g))
 
   -- ---- the first amount is in it
-  pub annuity-least : (w : ℕ → ℕ) (start k n : ℕ) → w k ≤ carried (paying w) start k (suc n)
-  unfolding carried
-  annuity-least w start k n = omega arith
+  pub annuity-least : (w : ℕ → ℕ) (start k e : ℕ) → k < e → w k ≤ carried (paying w) start k (e - k)
+  annuity-least w start k e h = omega (arith, carried-before (paying w) start k e h)
 
-  pub annuity-positive : (w : ℕ → ℕ) {start : Ratio} → Proper start → (k n : ℕ) → 0 < w k → Positive (carried (paying* w) start k (suc n))
-  unfolding carried
-  annuity-positive w h k n some = ⊕-positive (whole-positive some) (step*-proper k (annuity-proper w h (suc k) n))
+  pub annuity-positive : (w : ℕ → ℕ) {start : Ratio} → Proper start → (k e : ℕ) → k < e → 0 < w k → Positive (carried (paying* w) start k (e - k))
+  annuity-positive w {start} h k e lt some =
+      rw (carried-before (paying* w) start k e lt) (⊕-positive (whole-positive some) (step*-proper k (annuity-proper w h (k + 1) (e - (k + 1)))))
 
   module _ (fair : Fair b) where
     -- ---- at most so many amounts
@@ -79,10 +79,11 @@ module _ (b : Basis) where
     unfolding step
     step-≤ k {f} {g} h = step-mono f g (b .P k) _ (omega arith) h
 
-    pub annuity-longer : (w : ℕ → ℕ) (k n d : ℕ) → carried (paying w) 0 k n ≤ carried (paying w) 0 k (n + d)
-    annuity-longer w k n d =
-        rw (carried-split (paying w) 0 k n d)
-        (carried-both (λ n f g. f ≤ g) (paying w) (paying w) 0 (carried (paying w) 0 (k + n) d) (omega arith) k n
+    pub annuity-longer : (w : ℕ → ℕ) (k x r : ℕ) → k ≤ x → x ≤ r → carried (paying w) 0 k (x - k) ≤ carried (paying w) 0 k (r - k)
+    annuity-longer w k x r kx xr =
+        let years : r - k ≡ x - k + (r - x) = omega arith in
+        rw (years, carried-split (paying w) 0 k (x - k) (r - x))
+        (carried-both (λ n f g. f ≤ g) (paying w) (paying w) 0 (carried (paying w) 0 (k + (x - k)) (r - x)) (omega arith) k (x - k)
         (λ j n from to f g le. omega (arith, step-≤ j le)))
 
     -- ---- how far the rounded lies from the exact
@@ -101,10 +102,11 @@ module _ (b : Basis) where
         (λ j n from to f g near.
         rw (add-suc m n) (step-halves (m + n) f g (b .P j) _ (omega arith) (omega (arith, fair .stays j)) near))
 
-  pub annuity*-longer : (w : ℕ → ℕ) (k n d : ℕ) → carried (paying* w) (whole 0) k n ≼ carried (paying* w) (whole 0) k (n + d)
+  pub annuity*-longer : (w : ℕ → ℕ) (k x r : ℕ) → k ≤ x → x ≤ r → carried (paying* w) (whole 0) k (x - k) ≼ carried (paying* w) (whole 0) k (r - k)
   unfolding step*
-  annuity*-longer w k n d =
-      rw (carried-split (paying* w) (whole 0) k n d)
-      (carried-both (λ n f g. f ≼ g) (paying* w) (paying* w) (whole 0) (carried (paying* w) (whole 0) (k + n) d)
-      (zero-≼ (annuity-proper w (whole-proper 0) (k + n) d)) k n
+  annuity*-longer w k x r kx xr =
+      let years : r - k ≡ x - k + (r - x) = omega arith in
+      rw (years, carried-split (paying* w) (whole 0) k (x - k) (r - x))
+      (carried-both (λ n f g. f ≼ g) (paying* w) (paying* w) (whole 0) (carried (paying* w) (whole 0) (k + (x - k)) (r - x))
+      (zero-≼ (annuity-proper w (whole-proper 0) (k + (x - k)) (r - x))) k (x - k)
       (λ j n from to f g le. ⊕-mono (≼-refl (whole-proper (w j))) (⊗-mono le (≼-refl (over-proper (b .P j) (omega arith))))))

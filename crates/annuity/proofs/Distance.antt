@@ -35,21 +35,12 @@ part-proper s hs h = ⊗-proper h (over-proper 1 (omega arith))
 
 part-over : (s : ℕ) {f : ℕ} {a : Ratio} → 0 < s → Proper a → Part s f a → whole f ≼ a ⊕ a ⊗ 1 over (2 * s)
 unfolding whole _over_ _⊕_ _⊗_
-part-over s {f} {a} hs h w =
-    record {
-      left = whole-proper f;
-      right = ⊕-proper h (part-proper s hs h);
-      cross = omega (arith, mul-le-mul-left (a .lower) (w .below));
-    }
+part-over s {f} {a} hs h w = omega (arith, ⊕-proper h (part-proper s hs h), mul-le-mul-left (a .lower) (w .below))
 
 part-under : (s : ℕ) {f : ℕ} {a : Ratio} → 0 < s → Proper a → Part s f a → a ≼ whole f ⊕ a ⊗ 1 over (2 * s)
 unfolding whole _over_ _⊕_ _⊗_
 part-under s {f} {a} hs h w =
-    record {
-      left = h;
-      right = ⊕-proper (whole-proper f) (part-proper s hs h);
-      cross = omega (arith, mul-le-mul-left (a .lower) (w .above));
-    }
+    omega (arith, ⊕-proper (whole-proper f) (part-proper s hs h), mul-le-mul-left (a .lower) (w .above))
 
 pub halves-apart : {n f : ℕ} {a : Ratio} → Proper a → Halves n f a → Apart (n over 2) (fraction (whole f)) (fraction a)
 unfolding whole _over_ _⊕_

@@ -12,7 +12,7 @@ use Rattle.annuity.specs.declared.Amount.the-variants.{Nothing, One, Wei
 use Rattle.rounding.specs.Nearest.{nearest}
 use Rattle.annuity.specs.Rates.{stays}
 use Rattle.annuity.specs.Basis.{Basis, Fair, staying, basis}
-use Rattle.annuity.specs.Factors.{S, step, A, pension, G, T, Z}
+use Rattle.annuity.specs.Factors.{S, step, pension, G}
 use Rattle.annuity.specs.Filled.{Filled, amountOf, factor}
 use Rattle.annuity.proofs.Carried.{carried-at, carried-before, carried-cong}
 use Rattle.annuity.proofs.Annuities.{annuity-most}
@@ -40,11 +40,6 @@ filled-first F top v low high e =
           rw (← q) (getD-set-same (replicate 106 0) (top - 15) v 0 (omega arith) ∙ e);
       above = λ l tl lh. getD-set-other (replicate 106 0) (top - 15) (l - 15) v 0 (omega arith) ∙ getD-replicate 106 (l - 15) 0 0 (omega arith);
     }
-
--- another name for what it holds
-pub filled-as : (F H : ℕ → ℕ) (top : ℕ) {a : List ℕ} → ((k : ℕ) → F k ≡ H k) → Filled F top 15 a → Filled H top 15 a
-filled-as F H top same held =
-    record { size = held .size; upto = λ k low lt. held .upto k low lt ∙ same k; above = held .above }
 
 -- ---- the factor
 -- a year's amount and step, by the row of the year's age
@@ -78,19 +73,9 @@ factor-most b fair amount top start k high low st weights =
     (λ j from to. amount-le (b .W j) amount (weights j (omega arith) (omega arith))) in
     omega (arith, m, mul-le-mul-right {m = 1 + (top - k)} {n = 107} (100000 * S) (omega arith))
 
--- ---- A, G, T and Z are cases of it
-pub life-is : (b : Basis) (k : ℕ) → factor b One 120 S k ≡ A b k
-unfolding factor amountOf A
-life-is b k = refl
-
-pub deferred-is : (b : Basis) (k : ℕ) → factor b Nothing (b .r) (pension b) k ≡ G b k
+-- ---- A, T and Z are cases of it by computing, and G by a law
+pub deferred-filled : (b : Basis) {a : List ℕ} → Filled (factor b Nothing (b .r) (pension b)) (b .r) 15 a → Filled (G b) (b .r) 15 a
 unfolding factor amountOf G
-deferred-is b k = carried-cong _ _ (pension b) (λ j f. zero-add (step b j f)) k (b .r - k)
-
-pub working-is : (b : Basis) (e k : ℕ) → factor b One e 0 k ≡ T b k e
-unfolding factor amountOf T
-working-is b e k = refl
-
-pub pay-is : (b : Basis) (e k : ℕ) → factor b Weight e 0 k ≡ Z b k e
-unfolding factor amountOf Z
-pay-is b e k = refl
+deferred-filled b held =
+    let same : (k : ℕ) → factor b Nothing (b .r) (pension b) k ≡ G b k = λ k. carried-cong _ _ (pension b) (λ j f. zero-add (step b j f)) k (b .r - k) in
+    record { size = held .size; upto = λ k low lt. held .upto k low lt ∙ same k; above = held .above }

@@ -1,6 +1,5 @@
 -- How large the factors are, rounded and exact: at most so many payments, and no less for a later end. Every exact lower is above 0.
-use mathlib.Core.Path.{_≡_}
-use Prim.Native.Nat.{ℕ, suc, _+_, _-_, _*_, _≤_, _<_}
+use Prim.Native.Nat.{ℕ, _-_, _*_, _≤_, _<_}
 use native.Mathlib.Nat.{le-refl}
 use native.Mathlib.Omega.{arith}
 use Rattle.fractions.specs.Ratio.{whole, Proper, Positive, _≼_}
@@ -40,54 +39,42 @@ module _ (b : Basis) where
   -- ---- a year's payment at least, so that T and Z may be divided by
   pub T-least : (k e : ℕ) → k < e → S ≤ T b k e
   unfolding T
-  T-least k e h = let years : e - k ≡ suc (e - k - 1) = omega arith in rw years (annuity-least b (λ j. S) 0 k (e - k - 1))
+  T-least k e h = annuity-least b (λ j. S) 0 k e h
 
   pub Z-least : (k e : ℕ) → k < e → b .W k * S ≤ Z b k e
   unfolding Z
-  Z-least k e h =
-      let years : e - k ≡ suc (e - k - 1) = omega arith in rw years (annuity-least b (λ j. b .W j * S) 0 k (e - k - 1))
+  Z-least k e h = annuity-least b (λ j. b .W j * S) 0 k e h
 
   pub T*-positive : (k e : ℕ) → k < e → Positive (T* b k e)
   unfolding T*
-  T*-positive k e h =
-      let years : e - k ≡ suc (e - k - 1) = omega arith in
-      rw years (annuity-positive b (λ j. S) (whole-proper 0) k (e - k - 1) (omega arith))
+  T*-positive k e h = annuity-positive b (λ j. S) (whole-proper 0) k e h (omega arith)
 
   pub Z*-positive : (k e : ℕ) → k < e → 0 < b .W k → Positive (Z* b k e)
   unfolding Z*
-  Z*-positive k e h some =
-      let years : e - k ≡ suc (e - k - 1) = omega arith in
-      rw years (annuity-positive b (λ j. b .W j * S) (whole-proper 0) k (e - k - 1) (omega arith))
+  Z*-positive k e h some = annuity-positive b (λ j. b .W j * S) (whole-proper 0) k e h (omega arith)
 
   -- ---- a later end gives no less
   pub T*-longer : (k x r : ℕ) → k ≤ x → x ≤ r → T* b k x ≼ T* b k r
   unfolding T*
-  T*-longer k x r kx xr =
-      let years : r - k ≡ x - k + (r - x) = omega arith in rw years (annuity*-longer b (λ j. S) k (x - k) (r - x))
+  T*-longer = annuity*-longer b (λ j. S)
 
   pub Z*-longer : (k x r : ℕ) → k ≤ x → x ≤ r → Z* b k x ≼ Z* b k r
   unfolding Z*
-  Z*-longer k x r kx xr =
-      let years : r - k ≡ x - k + (r - x) = omega arith in
-      rw years (annuity*-longer b (λ j. b .W j * S) k (x - k) (r - x))
+  Z*-longer = annuity*-longer b (λ j. b .W j * S)
 
   module _ (fair : Fair b) where
     pub T-longer : (k x r : ℕ) → k ≤ x → x ≤ r → T b k x ≤ T b k r
     unfolding T
-    T-longer k x r kx xr =
-        let years : r - k ≡ x - k + (r - x) = omega arith in rw years (annuity-longer b fair (λ j. S) k (x - k) (r - x))
+    T-longer = annuity-longer b fair (λ j. S)
 
     pub Z-longer : (k x r : ℕ) → k ≤ x → x ≤ r → Z b k x ≤ Z b k r
     unfolding Z
-    Z-longer k x r kx xr =
-        let years : r - k ≡ x - k + (r - x) = omega arith in
-        rw years (annuity-longer b fair (λ j. b .W j * S) k (x - k) (r - x))
+    Z-longer = annuity-longer b fair (λ j. b .W j * S)
 
     -- ---- at most so many payments
     pub A-most : (k : ℕ) → k ≤ 120 → A b k ≤ (121 - k) * S
     unfolding A
-    A-most k h =
-        omega (arith, annuity-most b fair (λ j. S) S S 1 k (120 - k) (omega arith) (λ j from to. le-refl S))
+    A-most k h = omega (arith, annuity-most b fair (λ j. S) S S 1 k (120 - k) (omega arith) (λ j from to. le-refl S))
 
     pub A*-most : (k : ℕ) → k ≤ 120 → A* b k ≼ whole ((121 - k) * S)
     unfolding A*
@@ -113,8 +100,7 @@ module _ (b : Basis) where
 
     pub T-most : (k e : ℕ) → T b k e ≤ (e - k) * S
     unfolding T
-    T-most k e =
-        omega (arith, annuity-most b fair (λ j. S) S 0 0 k (e - k) (omega arith) (λ j from to. le-refl S))
+    T-most k e = omega (arith, annuity-most b fair (λ j. S) S 0 0 k (e - k) (omega arith) (λ j from to. le-refl S))
 
 -- ---- C
 pub C-most : (i m : ℕ) → C i m ≤ m * S

@@ -20,12 +20,7 @@ step-shrinks = nearest-shrinks
 
 pub exact-step-shrinks : (a : Ratio) (p d : ℕ) → 0 < d → p ≤ d → Proper a → a ⊗ p over d ≼ a
 unfolding _⊗_ _over_
-exact-step-shrinks a p d hd hp h =
-    record {
-      left = record { above = mul-pos (h .above) hd };
-      right = h;
-      cross = omega (arith, mul-le-mul-left (a .upper * a .lower) hp);
-    }
+exact-step-shrinks a p d hd hp h = omega (arith, mul-pos (h .above) hd, mul-le-mul-left (a .upper * a .lower) hp)
 
 -- it adds at most one half to an error
 pub step-halves : (n f : ℕ) (a : Ratio) (p d : ℕ) → 0 < d → p ≤ d → Halves n f a → Halves (suc n) (nearest (f * p) d) (a ⊗ p over d)

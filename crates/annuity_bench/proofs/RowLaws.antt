@@ -26,8 +26,7 @@ rowsOf-length numbers = rowsFrom-length numbers 0 106
 
 pub rowsOf-at : (numbers : List ℕ) (j : ℕ) → j < 106 → getD (rowsOf numbers) j [] ≡ rowAt numbers (4 * j)
 unfolding rowsOf
-rowsOf-at numbers j lt =
-    rowsFrom-at numbers 0 106 j lt ∙ ap (rowAt numbers) {x = 0 + 4 * j} {y = 4 * j} (omega arith)
+rowsOf-at numbers j lt = rowsFrom-at numbers 0 106 j lt ∙ ap (rowAt numbers) {x = 0 + 4 * j} {y = 4 * j} (omega arith)
 
 -- sound rows make a table
 pub sound-table : (rows : List (List ℕ)) → ((j : ℕ) → j < 106 → Sound (getD rows j [])) → Table rows

@@ -23,8 +23,7 @@ sides {l} {a} {b} d e h = ≤-size (l .lower) (l .upper * (a .lower * b .lower))
 of-sides : {l : Ratio} {a b : Fraction} {p q r s : ℕ} → Difference (a .upper) p q → Difference (b .upper) r s
     → Proper l → 0 < a .lower → 0 < b .lower → Sides l (a .lower) (b .lower) p q r s → Apart l a b
 unfolding size _over_ _⊖_
-of-sides {l} {a} {b} d e hl ha hb h =
-    omega (arith, mul-pos ha hb, size-≤ (l .lower) (⊖-upper a b d e) h)
+of-sides {l} {a} {b} d e hl ha hb h = omega (arith, mul-pos ha hb, size-≤ (l .lower) (⊖-upper a b d e) h)
 
 own-sides : {l : Ratio} {a b : Fraction} → Apart l a b
     → Sides l (a .lower) (b .lower) (pos-part (a .upper)) (neg-part (a .upper)) (pos-part (b .upper)) (neg-part (b .upper))
@@ -65,8 +64,7 @@ apart-trans {l} {m} {a} {b} {c} g h =
 -- ---- equal fractions
 apart-zero : {a b : Fraction} → a ≐ b → Apart (whole 0) a b
 unfolding whole _over_
-apart-zero e =
-    of-sides (of-itself _) (of-itself _) (whole-proper 0) (e .left) (e .right) (omega (arith, cross-sums e))
+apart-zero e = of-sides (of-itself _) (of-itself _) (whole-proper 0) (e .left) (e .right) (omega (arith, cross-sums e))
 
 pub apart-≐ : {l : Ratio} {a a′ b b′ : Fraction} → a ≐ a′ → b ≐ b′ → Apart l a b → Apart l a′ b′
 apart-≐ e f h = simp (⊕-zero, zero-⊕) at (apart-trans (apart-zero (≐-sym e)) (apart-trans h (apart-zero f)))

@@ -2,7 +2,7 @@
 use mathlib.Core.Path.{_≡_, refl, sym, ap}
 use Prim.Native.Nat.{ℕ, _+_, _*_}
 use native.Mathlib.Omega.{arith}
-use native.Mathlib.Nat.{mul-pos, eq-of-mul-eq-mul-right}
+use native.Mathlib.Nat.{mul-pos}
 use lib.IntN.{ℤ, pos, negℤ, _*ℤ_}
 use Rattle.fractions.specs.Ratio.{Ratio, _over_, whole, _⊕_, _⊗_, Proper, _≈_}
 use Rattle.fractions.specs.Fraction.{Fraction, fraction, integer, _⊖_, _⊙_, opposite, _≐_}
@@ -22,18 +22,6 @@ pub cross-sums : {a b : Fraction} → a ≐ b
     ≡ pos-part (b .upper) * a .lower + neg-part (a .upper) * b .lower
 cross-sums {a} {b} e =
     sums-equal (of-times (b .lower) (of-itself (a .upper))) (of-times (a .lower) (of-itself (b .upper))) (e .cross)
-
-infixr 30 _∙≐_
-pub _∙≐_ : {a b c : Fraction} → a ≐ b → b ≐ c → a ≐ c
-_∙≐_ {a} {b} {c} e f =
-    record {
-      left = e .left;
-      right = f .right;
-      cross =
-          equal (of-times (c .lower) (of-itself (a .upper))) (of-times (a .lower) (of-itself (c .upper)))
-          (eq-of-mul-eq-mul-right (b .lower) (e .right) _ _
-          (omega (arith, ap (λ (n : ℕ). n * c .lower) (cross-sums e), ap (λ (n : ℕ). n * a .lower) (cross-sums f))));
-    }
 
 -- ---- differences
 -- the upper part of a − b, where those of a and b are p − q and r − s

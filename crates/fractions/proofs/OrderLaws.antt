@@ -18,43 +18,24 @@ pub ≼-of : {a b : Ratio} → a ≈ b → a ≼ b
 infixr 30 _∙≼_
 pub _∙≼_ : {a b c : Ratio} → a ≼ b → b ≼ c → a ≼ c
 _∙≼_ {a} {b} {c} e f =
-    record {
-      left = e .left;
-      right = f .right;
-      cross =
-          le-of-mul-le-mul-right {k = b .lower}
-          (omega (arith, mul-le-mul-right (c .lower) (e .cross), mul-le-mul-right (a .lower) (f .cross)))
-          (e .right .above);
-    }
+    let x = mul-le-mul-right (c .lower) (e .cross) in
+    let y = mul-le-mul-right (a .lower) (f .cross) in
+    record { left = e .left; right = f .right; cross = le-of-mul-le-mul-right {k = b .lower} (omega arith) (e .right .above) }
 
 -- ---- sums and products
 pub ⊕-mono : {a b c d : Ratio} → a ≼ b → c ≼ d → a ⊕ c ≼ b ⊕ d
 unfolding _⊕_
 ⊕-mono {a} {b} {c} {d} e f =
-    record {
-      left = ⊕-proper (e .left) (f .left);
-      right = ⊕-proper (e .right) (f .right);
-      cross =
-          omega (
-            arith,
-            mul-le-mul-right (c .lower * d .lower) (e .cross),
-            mul-le-mul-right (a .lower * b .lower) (f .cross),
-          );
-    }
+    let x = mul-le-mul-right (c .lower * d .lower) (e .cross) in
+    let y = mul-le-mul-right (a .lower * b .lower) (f .cross) in
+    omega (arith, ⊕-proper (e .left) (f .left), ⊕-proper (e .right) (f .right))
 
 pub ⊗-mono : {a b c d : Ratio} → a ≼ b → c ≼ d → a ⊗ c ≼ b ⊗ d
 unfolding _⊗_
 ⊗-mono {a} {b} {c} {d} e f =
-    record {
-      left = ⊗-proper (e .left) (f .left);
-      right = ⊗-proper (e .right) (f .right);
-      cross =
-          omega (
-            arith,
-            mul-le-mul-right (c .upper * d .lower) (e .cross),
-            mul-le-mul-right (b .upper * a .lower) (f .cross),
-          );
-    }
+    let x = mul-le-mul-right (c .upper * d .lower) (e .cross) in
+    let y = mul-le-mul-right (b .upper * a .lower) (f .cross) in
+    omega (arith, ⊗-proper (e .left) (f .left), ⊗-proper (e .right) (f .right))
 
 pub ≼-⊕ : {a b : Ratio} → Proper a → Proper b → a ≼ a ⊕ b
 unfolding _⊕_

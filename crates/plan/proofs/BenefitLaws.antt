@@ -55,8 +55,7 @@ nothing x w h = record { left = record { above = omega arith }; right = record {
 
 joined : (s x y w : ℕ) → 0 < w → (s * x) over w ⊕ (s * y) over w ≈ (s * (x + y)) over w
 unfolding _over_ _⊕_
-joined s x y w h =
-    record { left = record { above = mul-pos h h }; right = record { above = h }; cross = omega arith }
+joined s x y w h = record { left = record { above = mul-pos h h }; right = record { above = h }; cross = omega arith }
 
 times : (u c x w : ℕ) → 0 < c → 0 < w → u over c ⊗ x over w ≈ (u * x) over (c * w)
 unfolding _over_ _⊗_

@@ -30,7 +30,6 @@ final-fits unit years salary weights hu hy hs hw = mul-le-mul (mul-le-mul hu hy)
 pub record LastAges (average years n : ℕ) : Type 0 where
   pub some : 0 < n
   pub most : n ≤ 10
-  pub most-years : n ≤ years
 
 least-some : {a b : ℕ} (t : Bool) → leb a b ≡ t → 0 < a → 0 < b → 0 < min a b
 least-some {a} {b} true e ha hb = rw (min-eq-left (leb-true a b e)) ha
@@ -38,11 +37,7 @@ least-some {a} {b} false e ha hb = rw (min-eq-right (le-of-lt (leb-false a b e))
 
 pub last-ages : (average years : ℕ) → 1 ≤ average → average ≤ 10 → 0 < years → LastAges average years (min average years)
 last-ages average years low high some =
-    record {
-      some = least-some (leb average years) refl low some;
-      most = omega (arith, min-le-left average years);
-      most-years = min-le-right average years;
-    }
+    record { some = least-some (leb average years) refl low some; most = omega (arith, min-le-left average years) }
 
 -- ---- sums of a table's weights
 module _ (rows : List (List ℕ)) (a b : ℕ) (low : 15 ≤ a) (le : a ≤ b) (high : b ≤ 120) where

@@ -84,10 +84,8 @@ half-even = record { is = rounded; only = rounded-only }
 -- ---- as the code decides it
 -- a remainder of more than half raises the quotient, and one of just half raises it where it is odd
 pub raised : (q r d : ℕ) → r < d → d < r + r + q % 2 → nearest (q * d + r) d ≡ q + 1
-raised q r d h more =
-    sym (rounded-only (q * d + r) d (q + 1) (omega arith) (omega arith))
+raised q r d h more = sym (rounded-only (q * d + r) d (q + 1) (omega arith) (omega arith))
 
 -- no other does
 pub kept : (q r d : ℕ) → r < d → r + r + q % 2 ≤ d → nearest (q * d + r) d ≡ q
-kept q r d h less =
-    sym (rounded-only (q * d + r) d q (omega arith) (omega arith))
+kept q r d h less = sym (rounded-only (q * d + r) d q (omega arith) (omega arith))

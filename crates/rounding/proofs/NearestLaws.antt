@@ -28,8 +28,7 @@ nearest-mono m n d h le = rounded-mono m n d (nearest m d) (nearest n d) h le (r
 
 -- a product with at most one is rounded to no more than it was
 pub nearest-shrinks : (f p d : ℕ) → 0 < d → p ≤ d → nearest (f * p) d ≤ f
-nearest-shrinks f p d h le =
-    omega (arith, nearest-mono (f * p) (f * d) d h (mul-le-mul-left f le), nearest-exact f d h)
+nearest-shrinks f p d h le = omega (arith, nearest-mono (f * p) (f * d) d h (mul-le-mul-left f le), nearest-exact f d h)
 
 -- and no number to more than itself
 pub nearest-le : (n d : ℕ) → 0 < d → nearest n d ≤ n

@@ -20,5 +20,4 @@ carried w high low c u lh ll e f room less =
 
 pub two-words : (w u l : Wide) (c : ℕ) → value u ≡ w .high * c → value l ≡ w .low * c → u .high ≡ 0 → u .low + l .high < 2 ^ 64 → l .low < 2 ^ 64 → value w * c < 2 ^ 128
 unfolding value
-two-words w u l c e f none =
-    carried (2 ^ 64) (w .high) (w .low) c (u .low) (l .high) (l .low) (rw none at e) f
+two-words w u l c e f none = carried (2 ^ 64) (w .high) (w .low) c (u .low) (l .high) (l .low) (rw none at e) f

@@ -17,15 +17,6 @@ Inv-loop i m c₀ paid₀ c paid = (c ≡ C i paid) × (paid ≤ m)
 abbrev μ-loop : tie.MeasureT-loop
 μ-loop i m c₀ paid₀ c paid = m - paid
 
-loop-holds : tie.Need-loop-holds Inv-loop μ-loop
-loop-holds c = (sym (C-none (c .args .i)), omega arith)
-
-add-mul-div-nearest : tie.Need-add-mul-div-nearest Inv-loop μ-loop
-add-mul-div-nearest c = omega arith
-
-mul-mul-div-nearest : tie.Need-mul-mul-div-nearest Inv-loop μ-loop
-mul-mul-div-nearest c = omega arith
-
 mul-div-nearest-requires : tie.Need-mul-div-nearest-requires Inv-loop μ-loop
 mul-div-nearest-requires c κs =
     let i = c .before .before .args .i in
@@ -43,15 +34,6 @@ stored c =
 add-c : tie.Need-add-c Inv-loop μ-loop
 add-c c = omega (arith, stored c, C-most (c .before .before .before .args .i) (c .before .before .loop .paid + 1))
 
-add-paid : tie.Need-add-paid Inv-loop μ-loop
-add-paid c = omega arith
-
-loop-less : tie.Need-loop-less Inv-loop μ-loop
-loop-less c = omega arith
-
-loop-again : tie.Need-loop-again Inv-loop μ-loop
-loop-again c = (stored c, omega arith)
-
 returns : tie.Need-returns Inv-loop μ-loop
 returns c =
     let l = c .before .loop in
@@ -60,16 +42,5 @@ returns c =
 
 pub certain-annuity-spec : {M : Type 1} → statement M
 certain-annuity-spec =
-    tie.close
-    (tie.spec
-    Inv-loop
-    μ-loop
-    loop-holds
-    add-mul-div-nearest
-    mul-mul-div-nearest
-    mul-div-nearest-requires
-    add-c
-    add-paid
-    loop-less
-    loop-again
-    returns)
+    tie.close (tie.spec Inv-loop μ-loop (λ c. (sym (C-none (c .args .i)), omega arith)) (omega arith) (omega arith)
+    mul-div-nearest-requires add-c (omega arith) (omega arith) (λ c. (stored c, omega arith)) returns)

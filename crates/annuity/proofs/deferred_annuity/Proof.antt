@@ -1,18 +1,12 @@
 -- `annuity::deferred_annuity` meets its contract.
 use native.Mathlib.Omega.{arith}
-use Rattle.annuity.specs.declared.Amount.the-variants.{Nothing}
 use Rattle.annuity.specs.Basis.{basis}
-use Rattle.annuity.specs.Factors.{pension, G}
-use Rattle.annuity.specs.Filled.{factor}
 use Rattle.annuity.proofs.Bases.{basis-fair}
 use Rattle.annuity.proofs.Sizes.{pension-most}
-use Rattle.annuity.proofs.Filling.{filled-as, deferred-is}
+use Rattle.annuity.proofs.Filling.{deferred-filled}
 use borrow.Author.Needs.{needs}
 use Rattle.annuity.proofs.deferred_annuity.Statement.{statement}
 use Rattle.annuity.proofs.deferred_annuity.Tie as tie
-
-pension-requires : tie.Need-pension-requires
-pension-requires c κs = search needs
 
 fill-requires : tie.Need-fill-requires
 fill-requires c κs =
@@ -20,11 +14,7 @@ fill-requires c κs =
     let a = s .args in
     (s .pre .0, s .pre .1, s .pre .2, s .pre .3, omega (arith, c .pension .ensures, pension-most (basis (a .rows) (a .r) (a .i)) (basis-fair (a .rows) (a .r) (a .i)) (s .pre .3)))
 
-returns : tie.Need-returns
-returns c =
-    let a = c .before .before .args in
-    let b = basis (a .rows) (a .r) (a .i) in
-    filled-as (factor b Nothing (a .r) (pension b)) (G b) (a .r) (deferred-is b) (rw (c .before .pension .ensures) at (c .fill .ensures))
-
 pub deferred-annuity-spec : {M : Type 1} → statement M
-deferred-annuity-spec = tie.close (tie.spec pension-requires fill-requires returns)
+deferred-annuity-spec =
+    tie.close (tie.spec (λ c κs. search needs) fill-requires
+    (λ c. deferred-filled _ (rw (c .before .pension .ensures) at (c .fill .ensures))))

@@ -19,15 +19,6 @@ Inv-loop r i amount top start rows a₀ j₀ a j =
 abbrev μ-loop : tie.MeasureT-loop
 μ-loop r i amount top start rows a₀ j₀ a j = j
 
-sub-j : tie.Need-sub-j Inv-loop μ-loop
-sub-j c = omega arith
-
-mul-a : tie.Need-mul-a Inv-loop μ-loop
-mul-a c = omega arith
-
-array-write-a : tie.Need-array-write-a Inv-loop μ-loop
-array-write-a c = omega arith
-
 loop-holds : tie.Need-loop-holds Inv-loop μ-loop
 loop-holds c =
     let g = c .args in
@@ -36,21 +27,6 @@ loop-holds c =
     let low : g .top - 15 + 15 ≡ g .top = omega arith in
     (omega arith, rw low first)
 
-mul-f : tie.Need-mul-f Inv-loop μ-loop
-mul-f c = omega arith
-
-array-read-f : tie.Need-array-read-f Inv-loop μ-loop
-array-read-f c = omega arith
-
-sub-j-2 : tie.Need-sub-j-2 Inv-loop μ-loop
-sub-j-2 c = omega arith
-
-mul-row : tie.Need-mul-row Inv-loop μ-loop
-mul-row c = omega arith
-
-array-copy-out-row : tie.Need-array-copy-out-row Inv-loop μ-loop
-array-copy-out-row c = omega arith
-
 -- the row of a turn
 sound : (c : tie.After-row Inv-loop μ-loop) → Sound (getD (c .before .before .before .args .t1) (c .before .before .loop .j - 1) [])
 sound c =
@@ -58,15 +34,6 @@ sound c =
     let k : ℕ = c .before .before .loop .j - 1 + 15 in
     let place : k - 15 ≡ c .before .before .loop .j - 1 = omega arith in
     rw place at (s .pre .0 k (omega arith) (omega arith))
-
-amount-of-requires : tie.Need-amount-of-requires Inv-loop μ-loop
-amount-of-requires c κs = sound c
-
-add-step : tie.Need-add-step Inv-loop μ-loop
-add-step c = omega arith
-
-step-requires : tie.Need-step-requires Inv-loop μ-loop
-step-requires c κs = (sound (c .before), c .before .before .before .before .pre .1)
 
 -- what a turn stores is the factor of its age
 stored : (c : tie.After-step Inv-loop μ-loop) → let g = c .before .before .before .before .before .args in c .before .amount-of .result + c .step .result ≡ factor (basis (g .t1) (g .r) (g .i)) (g .amount) (g .top) (g .start) (c .before .before .before .before .loop .j - 1 + 15)
@@ -89,15 +56,6 @@ add-a c =
     let g = s .args in
     omega (arith, stored c, factor-most (basis (g .t1) (g .r) (g .i)) (basis-fair (g .t1) (g .r) (g .i)) (g .amount) (g .top) (g .start) (c .before .before .before .before .loop .j - 1 + 15) (s .pre .3) (omega arith) (s .pre .4) (λ k low high. s .pre .0 k low high .weight))
 
-mul-a-2 : tie.Need-mul-a-2 Inv-loop μ-loop
-mul-a-2 c = omega arith
-
-array-write-a-2 : tie.Need-array-write-a-2 Inv-loop μ-loop
-array-write-a-2 c = omega arith
-
-loop-less : tie.Need-loop-less Inv-loop μ-loop
-loop-less c = omega arith
-
 loop-again : tie.Need-loop-again Inv-loop μ-loop
 loop-again c =
     let s = c .before .before .before .before .before in
@@ -116,25 +74,7 @@ returns c =
 
 pub fill-spec : {M : Type 1} → statement M
 fill-spec =
-    tie.close
-    (tie.spec
-    Inv-loop
-    μ-loop
-    sub-j
-    mul-a
-    array-write-a
-    loop-holds
-    mul-f
-    array-read-f
-    sub-j-2
-    mul-row
-    array-copy-out-row
-    amount-of-requires
-    add-step
-    step-requires
-    add-a
-    mul-a-2
-    array-write-a-2
-    loop-less
-    loop-again
-    returns)
+    tie.close (tie.spec Inv-loop μ-loop (omega arith) (omega arith) (omega arith) loop-holds (omega arith) (omega arith)
+    (omega arith) (omega arith) (omega arith) (λ c κs. sound c) (omega arith)
+    (λ c κs. (sound (c .before), c .before .before .before .before .pre .1)) add-a (omega arith) (omega arith)
+    (omega arith) loop-again returns)

@@ -1,5 +1,4 @@
 -- `annuity::staying` meets its contract.
-use borrow.Author.Needs.{needs}
 use borrow.Author.Tests.{lt-ltb, le-ltb}
 use mathlib.Core.Path.{_≡_, _∙_}
 use Prim.Native.Nat.{_-_, _*_}
@@ -10,24 +9,9 @@ use Rattle.annuity.proofs.Rates.{leaving-and-staying}
 use Rattle.annuity.proofs.staying.Statement.{statement}
 use Rattle.annuity.proofs.staying.Tie as tie
 
-able-requires : tie.Need-able-requires
-able-requires c κs = search needs
-
-array-read-left-by : tie.Need-array-read-left-by
-array-read-left-by c = search needs
-
-left-by-requires : tie.Need-left-by-requires
-left-by-requires c κs = search needs
-
 left-by-both-requires : tie.Need-left-by-both-requires
 left-by-both-requires c κs =
     (omega (arith, c .before .able .ensures, leaving-and-staying .able-most (c .before .before .before .args .t1)), omega (arith, c .left-by .ensures))
-
-array-read-left-by-2 : tie.Need-array-read-left-by-2
-array-read-left-by-2 c = search needs
-
-left-by-requires-2 : tie.Need-left-by-requires-2
-left-by-requires-2 c κs = search needs
 
 returns : tie.Need-returns
 unfolding serves stays
@@ -44,13 +28,5 @@ returns-2 c =
 
 pub staying-spec : {M : Type 1} → statement M
 staying-spec =
-    tie.close
-    (tie.spec
-    able-requires
-    array-read-left-by
-    left-by-requires
-    left-by-both-requires
-    array-read-left-by-2
-    left-by-requires-2
-    returns
-    returns-2)
+    tie.close (tie.spec (omega arith) (omega arith) (omega arith) left-by-both-requires (omega arith) (omega arith)
+    returns returns-2)

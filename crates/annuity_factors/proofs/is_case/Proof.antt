@@ -1,16 +1,9 @@
 -- `annuity_factors::is_case` meets its contract.
 use borrow.Author.Needs.{needs}
 use borrow.Author.Tests.{ltb-false}
-use mathlib.Core.Bool.{false≢true}
 use native.Mathlib.Omega.{arith}
 use Rattle.annuity_factors.proofs.is_case.Statement.{statement}
 use Rattle.annuity_factors.proofs.is_case.Tie as tie
-
-returns : tie.Need-returns
-returns c e = absurd (false≢true e)
-
-is-table-requires : tie.Need-is-table-requires
-is-table-requires c κs = search needs
 
 returns-2 : tie.Need-returns-2
 returns-2 c e =
@@ -25,4 +18,4 @@ returns-2 c e =
     }
 
 pub is-case-spec : {M : Type 1} → statement M
-is-case-spec = tie.close (tie.spec returns is-table-requires returns-2)
+is-case-spec = tie.close (tie.spec (λ c e. search needs) (search needs) returns-2)

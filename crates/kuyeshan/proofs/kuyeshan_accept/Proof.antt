@@ -1,18 +1,9 @@
 -- `kuyeshan::kuyeshan_accept` meets its contract.
-use borrow.Author.Needs.{needs}
+use native.Mathlib.Omega.{arith}
 use Rattle.casefile.specs.Case.{acceptingOf}
 use Rattle.kuyeshan.proofs.AnswerLaws.{accept-none, accept-refused}
 use Rattle.kuyeshan.proofs.kuyeshan_accept.Statement.{statement}
 use Rattle.kuyeshan.proofs.kuyeshan_accept.Tie as tie
-
-accept-case-requires : tie.Need-accept-case-requires
-accept-case-requires c κs = search needs
-
-enum-told : tie.Need-enum-told
-enum-told c = search needs
-
-enum-known-number : tie.Need-enum-known-number
-enum-known-number c = search needs
 
 returns : tie.Need-returns
 returns c = accept-none (acceptingOf (c .before .before .before .before .before .before .args .case .now)) (c .before .before .accept-case .ensures .0) (c .enum-told .given .1)
@@ -21,5 +12,4 @@ returns-2 : tie.Need-returns-2
 returns-2 c = accept-refused (acceptingOf (c .before .before .before .before .before .before .before .args .case .now)) (c .before .before .before .accept-case .ensures .0) (c .before .number .given .1)
 
 pub kuyeshan-accept-spec : {M : Type 1} → statement M
-kuyeshan-accept-spec =
-    tie.close (tie.spec accept-case-requires enum-told enum-known-number returns returns-2)
+kuyeshan-accept-spec = tie.close (tie.spec (search) (omega arith) (omega arith) returns returns-2)

@@ -1,5 +1,5 @@
 -- `kuyeshan::kuyeshan_refusal_line` meets its contract.
-use borrow.Author.Needs.{needs}
+use native.Mathlib.Omega.{arith}
 use lib.ListN.{length}
 use Rattle.valuation.specs.Lines.{refusalLine}
 use Rattle.valuation.specs.Answers.{fitting}
@@ -7,27 +7,12 @@ use Rattle.kuyeshan.proofs.AnswerLaws.{written-is, write-refused}
 use Rattle.kuyeshan.proofs.kuyeshan_refusal_line.Statement.{statement}
 use Rattle.kuyeshan.proofs.kuyeshan_refusal_line.Tie as tie
 
-refusal-line-requires : tie.Need-refusal-line-requires
-refusal-line-requires c κs = search needs
-
-enum-known-n : tie.Need-enum-known-n
-enum-known-n c = search needs
-
-enum-known-refusal : tie.Need-enum-known-refusal
-enum-known-refusal c = search needs
-
-same-length : tie.Need-same-length
-same-length c = search needs
-
 returns : tie.Need-returns
 returns c =
     let g = c .before .before .before .before .before .before .before .before .args in
     let v = c .before .before .before .before .before .refusal-line .ensures in
     let w = written-is (fitting (length (g .out .now)) (refusalLine (g .number) (g .line))) (v .0) (c .before .n .given .1) in
     (w .0, (v .1, w .2))
-
-same-length-2 : tie.Need-same-length-2
-same-length-2 c = search needs
 
 returns-2 : tie.Need-returns-2
 returns-2 c =
@@ -38,12 +23,4 @@ returns-2 c =
 
 pub kuyeshan-refusal-line-spec : {M : Type 1} → statement M
 kuyeshan-refusal-line-spec =
-    tie.close
-    (tie.spec
-    refusal-line-requires
-    enum-known-n
-    enum-known-refusal
-    same-length
-    returns
-    same-length-2
-    returns-2)
+    tie.close (tie.spec (search) (omega arith) (omega arith) (omega arith) returns (omega arith) returns-2)

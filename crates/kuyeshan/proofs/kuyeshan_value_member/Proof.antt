@@ -1,23 +1,8 @@
 -- `kuyeshan::kuyeshan_value_member` meets its contract.
-use borrow.Author.Needs.{needs}
+use native.Mathlib.Omega.{arith}
 use Rattle.kuyeshan.proofs.AnswerLaws.{valued-is, value-refused}
 use Rattle.kuyeshan.proofs.kuyeshan_value_member.Statement.{statement}
 use Rattle.kuyeshan.proofs.kuyeshan_value_member.Tie as tie
-
-plan-of-requires : tie.Need-plan-of-requires
-plan-of-requires c κs = search needs
-
-member-of-requires : tie.Need-member-of-requires
-member-of-requires c κs = search needs
-
-value-member-requires : tie.Need-value-member-requires
-value-member-requires c κs = search needs
-
-enum-known-f : tie.Need-enum-known-f
-enum-known-f c = search needs
-
-enum-known-number : tie.Need-enum-known-number
-enum-known-number c = search needs
 
 returns : tie.Need-returns
 returns c =
@@ -33,12 +18,4 @@ returns-2 c =
 
 pub kuyeshan-value-member-spec : {M : Type 1} → statement M
 kuyeshan-value-member-spec =
-    tie.close
-    (tie.spec
-    plan-of-requires
-    member-of-requires
-    value-member-requires
-    enum-known-f
-    enum-known-number
-    returns
-    returns-2)
+    tie.close (tie.spec (search) (search) (search) (omega arith) (omega arith) returns returns-2)

@@ -1,16 +1,9 @@
 -- `rounding::half_even` meets its contract.
-use borrow.Author.Needs.{needs}
 use mathlib.Core.Path.{sym}
 use native.Mathlib.Omega.{arith}
 use Rattle.rounding.proofs.HalfEven.{raised, kept}
 use Rattle.rounding.proofs.half_even.Statement.{statement}
 use Rattle.rounding.proofs.half_even.Tie as tie
-
-add-if1 : tie.Need-add-if1
-add-if1 c = search needs
-
-sub-if1 : tie.Need-sub-if1
-sub-if1 c = search needs
 
 add-result : tie.Need-add-result
 add-result c =
@@ -28,4 +21,4 @@ returns-2 c =
     sym (kept (a .s .quotient) (a .s .remainder) (a .d) (omega arith) (omega arith))
 
 pub half-even-spec : {M : Type 1} → statement M
-half-even-spec = tie.close (tie.spec add-if1 sub-if1 add-result returns returns-2)
+half-even-spec = tie.close (tie.spec (omega arith) (omega arith) add-result returns returns-2)

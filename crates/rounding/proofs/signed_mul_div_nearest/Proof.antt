@@ -1,13 +1,9 @@
 -- `rounding::signed_mul_div_nearest` meets its contract.
-use borrow.Author.Needs.{needs}
 use mathlib.Core.Path.{sym, _∙_}
 use native.Mathlib.Omega.{arith}
 use Rattle.rounding.proofs.SignedLaws.{signed-zero, signed-other}
 use Rattle.rounding.proofs.signed_mul_div_nearest.Statement.{statement}
 use Rattle.rounding.proofs.signed_mul_div_nearest.Tie as tie
-
-mul-div-nearest-requires : tie.Need-mul-div-nearest-requires
-mul-div-nearest-requires c κs = search needs
 
 returns : tie.Need-returns
 returns c =
@@ -21,4 +17,4 @@ returns-2 c =
     signed-other (a .a) (a .b) (a .d) (q .result) (c .before .before .pre .0) (q .ensures) (omega arith)
 
 pub signed-mul-div-nearest-spec : {M : Type 1} → statement M
-signed-mul-div-nearest-spec = tie.close (tie.spec mul-div-nearest-requires returns returns-2)
+signed-mul-div-nearest-spec = tie.close (tie.spec (omega arith) returns returns-2)

@@ -1,14 +1,9 @@
 -- `rounding_bench::rounding_bench_signed_mul_div_nearest` meets its contract.
-use borrow.Author.Needs.{needs}
+use native.Mathlib.Omega.{arith}
 use mathlib.Core.Path.{ap}
 use Rattle.rounding.specs.declared.Signed.{Signed}
-use Rattle.rounding_bench.proofs.rounding_bench_signed_mul_div_nearest.Statement.{
-  statement,
-}
+use Rattle.rounding_bench.proofs.rounding_bench_signed_mul_div_nearest.Statement.{statement}
 use Rattle.rounding_bench.proofs.rounding_bench_signed_mul_div_nearest.Tie as tie
-
-signed-mul-div-nearest-requires : tie.Need-signed-mul-div-nearest-requires
-signed-mul-div-nearest-requires c κs = search needs
 
 returns : tie.Need-returns
 returns c =
@@ -16,5 +11,4 @@ returns c =
     (ap (λ (s : Signed). s .size) e, ap (λ (s : Signed). s .negative) e)
 
 pub rounding-bench-signed-mul-div-nearest-spec : {M : Type 1} → statement M
-rounding-bench-signed-mul-div-nearest-spec =
-    tie.close (tie.spec signed-mul-div-nearest-requires returns)
+rounding-bench-signed-mul-div-nearest-spec = tie.close (tie.spec (omega arith) returns)

@@ -1,33 +1,10 @@
 -- `rounding_edges::main` ends, and each line has a number below 1625.
-use borrow.Author.Needs.{needs}
+use native.Mathlib.Omega.{arith}
 use Prim.Native.Nat.{_-_, _≤_}
 use Rattle.rounding_edges.proofs.main.Statement.{statement}
 use Rattle.rounding_edges.proofs.main.Tie as tie
 
-abbrev Inv-loop : tie.InvT-loop
-Inv-loop i₀ i = i ≤ 1625
-
-abbrev μ-loop : tie.MeasureT-loop
-μ-loop i₀ i = 1625 - i
-
-loop-holds : tie.Need-loop-holds Inv-loop μ-loop
-loop-holds c = search needs
-
-line-requires : tie.Need-line-requires Inv-loop μ-loop
-line-requires c κs = search needs
-
-add-i : tie.Need-add-i Inv-loop μ-loop
-add-i c = search needs
-
-loop-less : tie.Need-loop-less Inv-loop μ-loop
-loop-less c = search needs
-
-loop-again : tie.Need-loop-again Inv-loop μ-loop
-loop-again c = search needs
-
-returns : tie.Need-returns Inv-loop μ-loop
-returns c = search needs
-
 pub main-spec : {M : Type 1} → statement M
 main-spec =
-    tie.close (tie.spec Inv-loop μ-loop loop-holds line-requires add-i loop-less loop-again returns)
+    tie.close (tie.spec (λ i₀ i. i ≤ 1625) (λ i₀ i. 1625 - i) (omega arith) (omega arith) (omega arith) (omega arith)
+    (omega arith) (search))

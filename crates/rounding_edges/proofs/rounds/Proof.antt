@@ -1,24 +1,11 @@
 -- `rounding_edges::rounds` meets its contract.
 use borrow.Author.Needs.{needs}
 use borrow.Author.Tests.{ltb-true}
-use mathlib.Core.Bool.{false≢true}
 use native.Mathlib.Omega.{arith}
 use Rattle.rounding.proofs.NearestLaws.{nearest-quotient}
 use Rattle.rounding_edges.proofs.Room.{not-raised}
 use Rattle.rounding_edges.proofs.rounds.Statement.{statement}
 use Rattle.rounding_edges.proofs.rounds.Tie as tie
-
-numbers-requires : tie.Need-numbers-requires
-numbers-requires c κs = search needs
-
-returns : tie.Need-returns
-returns c e = absurd (false≢true e)
-
-division-requires : tie.Need-division-requires
-division-requires c κs = search needs
-
-sub-result : tie.Need-sub-result
-sub-result c = search needs
 
 returns-2 : tie.Need-returns-2
 returns-2 c e =
@@ -36,4 +23,4 @@ returns-3 c e =
 
 pub rounds-spec : {M : Type 1} → statement M
 rounds-spec =
-    tie.close (tie.spec numbers-requires returns division-requires sub-result returns-2 returns-3)
+    tie.close (tie.spec (search needs) (λ c e. search needs) (search needs) (search needs) returns-2 returns-3)

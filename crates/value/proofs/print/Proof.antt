@@ -1,31 +1,15 @@
 -- `value::print` meets its contract: with 64 KiB `print_case` always writes.
-use borrow.Author.Needs.{needs}
 use mathlib.Core.Path.{_≡_, sym, _∙_}
 use Prim.Native.Nat.{ℕ}
 use native.Mathlib.Omega.{arith}
 use Rattle.value.proofs.print.Statement.{statement}
 use Rattle.value.proofs.print.Tie as tie
 
-print-case-requires : tie.Need-print-case-requires
-print-case-requires c κs = search needs
-
-enum-known-n : tie.Need-enum-known-n
-enum-known-n c = search needs
-
-enum-told : tie.Need-enum-told
-enum-told c = search needs
-
-same-length : tie.Need-same-length
-same-length c = search needs
-
 returns : tie.Need-returns
 returns c =
     let size = c .before .before .before .before .before .before .before .before .before .pre in
     let v = c .before .before .before .before .before .print-case .ensures in
     (rw size at (sym (c .before .n .given .1) ∙ v .0), rw size at (v .1 .0))
-
-same-length-2 : tie.Need-same-length-2
-same-length-2 c = search needs
 
 returns-2 : tie.Need-returns-2
 returns-2 c =
@@ -35,13 +19,4 @@ returns-2 c =
     absurd (omega arith)
 
 pub print-spec : {M : Type 1} → statement M
-print-spec =
-    tie.close
-    (tie.spec
-    print-case-requires
-    enum-known-n
-    enum-told
-    same-length
-    returns
-    same-length-2
-    returns-2)
+print-spec = tie.close (tie.spec (search) (omega arith) (omega arith) (omega arith) returns (omega arith) returns-2)

@@ -1,14 +1,11 @@
 -- `plan::acceptance::lone_refusal` meets its contract.
+use native.Mathlib.Omega.{arith}
 use mathlib.Core.Path.{sym, _∙_}
 use mathlib.Core.List.{_∷_, []}
 use Rattle.plan.specs.Acceptance.{planRefusal, memberRefusal, loneRefusal}
 use Rattle.plan.proofs.RuleLaws.{first-refuses, first-passes, first-alone}
-use borrow.Author.Needs.{needs}
 use Rattle.plan.proofs.acceptance.lone_refusal.Statement.{statement}
 use Rattle.plan.proofs.acceptance.lone_refusal.Tie as tie
-
-plan-refusal-requires : tie.Need-plan-refusal-requires
-plan-refusal-requires c κs = search needs
 
 returns : tie.Need-returns
 unfolding loneRefusal
@@ -16,9 +13,6 @@ returns c =
     let a = c .before .before .args in
     let e = c .before .plan-refusal .ensures in
     e ∙ sym (first-refuses (planRefusal (a .p) (a .t2)) (memberRefusal (a .p) (a .t2) 0 (a .m) ∷ []) (λ z. c .if1 .taken (e ∙ z)))
-
-member-refusal-requires : tie.Need-member-refusal-requires
-member-refusal-requires c κs = search needs
 
 returns-2 : tie.Need-returns-2
 unfolding loneRefusal
@@ -29,5 +23,4 @@ returns-2 c =
     ∙ sym (first-passes (planRefusal (a .p) (a .t2)) (memberRefusal (a .p) (a .t2) 0 (a .m) ∷ []) kept ∙ first-alone (memberRefusal (a .p) (a .t2) 0 (a .m)))
 
 pub lone-refusal-spec : {M : Type 1} → statement M
-lone-refusal-spec =
-    tie.close (tie.spec plan-refusal-requires returns member-refusal-requires returns-2)
+lone-refusal-spec = tie.close (tie.spec (search) returns (omega arith) returns-2)

@@ -6,12 +6,8 @@ use Rattle.plan.specs.Rules.{unless}
 use Rattle.plan.specs.Acceptance.{benefitRules}
 use Rattle.plan.proofs.RuleLaws.{in-order}
 use Rattle.plan.proofs.Facts.{placed-facts, fields-refused, fields-kept}
-use borrow.Author.Needs.{needs}
 use Rattle.plan.proofs.acceptance.member_refusal.Statement.{statement}
 use Rattle.plan.proofs.acceptance.member_refusal.Tie as tie
-
-fields-refusal-requires : tie.Need-fields-refusal-requires
-fields-refusal-requires c κs = search needs
 
 returns : tie.Need-returns
 returns c =
@@ -26,12 +22,6 @@ retirement-benefit-requires c κs =
     let a = s .args in
     (s .pre, placed-facts (a .p) (a .before) (a .m) (sym (c .before .fields-refusal .ensures) ∙ c .if1 .left))
 
-unless-requires : tie.Need-unless-requires
-unless-requires c κs = search needs
-
-or-else-requires : tie.Need-or-else-requires
-or-else-requires c κs = search needs
-
 returns-2 : tie.Need-returns-2
 unfolding benefitRules
 returns-2 c =
@@ -43,12 +33,4 @@ returns-2 c =
     ∙ sym (fields-kept (a .p) (a .rows .now) (a .before) (a .m) (sym fields ∙ c .before .before .before .if1 .left))
 
 pub member-refusal-spec : {M : Type 1} → statement M
-member-refusal-spec =
-    tie.close
-    (tie.spec
-    fields-refusal-requires
-    returns
-    retirement-benefit-requires
-    unless-requires
-    or-else-requires
-    returns-2)
+member-refusal-spec = search (tie.close, tie.spec, returns, retirement-benefit-requires, returns-2)

@@ -1,6 +1,5 @@
 -- `plan::acceptance::rows_refusal` meets its contract.
-use borrow.Author.Needs.{needs}
-use mathlib.Core.Path.{_≡_, refl, sym, ap, _∙_}
+use mathlib.Core.Path.{_≡_, sym, ap, _∙_}
 use Prim.Native.Nat.{_-_, _≤_}
 use native.Mathlib.Omega.{arith}
 use Rattle.plan.specs.declared.rules.Row.{Row}
@@ -17,24 +16,6 @@ Inv-loop rows k₀ before₀ k before =
 abbrev μ-loop : tie.MeasureT-loop
 μ-loop rows k₀ before₀ k before = 121 - k
 
-loop-holds : tie.Need-loop-holds Inv-loop μ-loop
-loop-holds c = (omega arith, omega arith, refl, refl)
-
-sub-row-of : tie.Need-sub-row-of Inv-loop μ-loop
-sub-row-of c = omega arith
-
-mul-row-of : tie.Need-mul-row-of Inv-loop μ-loop
-mul-row-of c = omega arith
-
-array-copy-out-row-of : tie.Need-array-copy-out-row-of Inv-loop μ-loop
-array-copy-out-row-of c = omega arith
-
-row-of-requires : tie.Need-row-of-requires Inv-loop μ-loop
-row-of-requires c κs = search needs
-
-row-rule-requires : tie.Need-row-rule-requires Inv-loop μ-loop
-row-rule-requires c κs = search needs
-
 -- the row of age k is judged by the definition's rules
 judged : (c : tie.After-row-rule Inv-loop μ-loop) → let l = c .before .before .before .before .loop in let rows = c .before .before .before .before .before .args .t1 in c .row-rule .result ≡ firstOf (rowRules (l .k) (weightBefore rows (l .k)) (rowOf rows (l .k)))
 judged c =
@@ -46,12 +27,6 @@ returns c =
     let l = c .before .before .before .before .before .loop in
     let rows = c .before .before .before .before .before .before .args .t1 in
     rows-refused rows (l .k) (omega arith) (judged (c .before)) (c .if1 .taken) ∙ sym (l .inv .3)
-
-add-k : tie.Need-add-k Inv-loop μ-loop
-add-k c = omega arith
-
-loop-less : tie.Need-loop-less Inv-loop μ-loop
-loop-less c = omega arith
 
 loop-again : tie.Need-loop-again Inv-loop μ-loop
 loop-again c =
@@ -68,18 +43,5 @@ returns-2 c =
 
 pub rows-refusal-spec : {M : Type 1} → statement M
 rows-refusal-spec =
-    tie.close
-    (tie.spec
-    Inv-loop
-    μ-loop
-    loop-holds
-    sub-row-of
-    mul-row-of
-    array-copy-out-row-of
-    row-of-requires
-    row-rule-requires
-    returns
-    add-k
-    loop-less
-    loop-again
-    returns-2)
+    tie.close (tie.spec Inv-loop μ-loop (omega arith) (omega arith) (omega arith) (omega arith) (search) (search)
+    returns (omega arith) (omega arith) loop-again returns-2)

@@ -1,9 +1,7 @@
 -- `plan::benefit::accrued_benefits` meets its contract.
-use mathlib.Core.Path.{_≡_, refl, ap, _∙_}
+use mathlib.Core.Path.{_≡_, ap, _∙_}
 use Prim.Native.Nat.{_+_, _-_, _≤_}
-use native.Mathlib.Nat.{le-refl}
 use native.Mathlib.Omega.{arith}
-use borrow.Author.Needs.{needs}
 use Rattle.plan.specs.declared.Formula.{Formula}
 use Rattle.plan.specs.Weights.{firstPaid}
 use Rattle.plan.specs.Benefit.{formulaOf, B}
@@ -19,20 +17,6 @@ Inv-loop p m rows sums formula retire benefits₀ k₀ benefits k =
 
 abbrev μ-loop : tie.MeasureT-loop
 μ-loop p m rows sums formula retire benefits₀ k₀ benefits k = p .retire + 1 - k
-
-summed-weights-requires : tie.Need-summed-weights-requires Inv-loop μ-loop
-summed-weights-requires c κs = plan-facts (c .args .p) (c .args .t2) (c .pre .0) .table
-
-formula-of-requires : tie.Need-formula-of-requires Inv-loop μ-loop
-formula-of-requires c κs = search needs
-
-loop-holds : tie.Need-loop-holds Inv-loop μ-loop
-loop-holds c =
-    let s = c .before .before in
-    (refl, le-refl (s .args .m .entry), omega (arith, s .pre .1 .enters), record { size = refl; each = λ k from to. absurd (omega arith) })
-
-first-paid-requires : tie.Need-first-paid-requires Inv-loop μ-loop
-first-paid-requires c κs = c .before .loop .inv .1
 
 -- the first age whose pay counts, by the definition, and where it lies
 first : (c : tie.After-first-paid Inv-loop μ-loop) → let a = c .before .before .before .before .before .args in c .first-paid .result ≡ firstPaid (formulaOf (a .p .formula)) (a .p .average) (a .m .entry) (c .before .before .loop .k)
@@ -59,20 +43,8 @@ benefit-requires c κs =
     let total = c .sum-between .ensures ∙ sums-differ (s .args .t2) (c .before .before .before .first-paid .result) (l .k) (at .low) (at .le) (at .high) (sums .result) (sums .ensures) in
     (s .pre .0, s .pre .1, l .inv .1, omega (arith, l .inv .0), first (c .before .before .before), total)
 
-sub-benefits : tie.Need-sub-benefits Inv-loop μ-loop
-sub-benefits c = omega (arith, c .before .before .before .before .before .before .before .before .before .pre .1 .grown, c .before .before .before .before .before .before .loop .inv .1)
-
-mul-benefits : tie.Need-mul-benefits Inv-loop μ-loop
-mul-benefits c = omega (arith, ages (c .before .before .before .before) .high)
-
 array-write-benefits : tie.Need-array-write-benefits Inv-loop μ-loop
 array-write-benefits c = let l = c .before .before .before .before .before .before .loop in omega (arith, c .before .before .before .before .before .before .before .before .before .pre .1 .grown, l .inv .1, l .inv .3 .size, ages (c .before .before .before .before) .high)
-
-add-k : tie.Need-add-k Inv-loop μ-loop
-add-k c = omega (arith, ages (c .before .before .before .before) .high)
-
-loop-less : tie.Need-loop-less Inv-loop μ-loop
-loop-less c = omega (arith, c .before .before .before .before .before .before .loop .inv .0)
 
 loop-again : tie.Need-loop-again Inv-loop μ-loop
 loop-again c =
@@ -87,20 +59,7 @@ returns c =
 
 pub accrued-benefits-spec : {M : Type 1} → statement M
 accrued-benefits-spec =
-    tie.close
-    (tie.spec
-    Inv-loop
-    μ-loop
-    summed-weights-requires
-    formula-of-requires
-    loop-holds
-    first-paid-requires
-    sum-between-requires
-    benefit-requires
-    sub-benefits
-    mul-benefits
-    array-write-benefits
-    add-k
-    loop-less
-    loop-again
-    returns)
+    tie.close (tie.spec Inv-loop μ-loop (λ c κs. plan-facts (c .args .p) (c .args .t2) (c .pre .0) .table) (search)
+    (omega arith) (omega arith) sum-between-requires benefit-requires (omega arith)
+    (λ c. omega (arith, ages (c .before .before .before .before) .high)) array-write-benefits
+    (λ c. omega (arith, ages (c .before .before .before .before) .high)) (omega arith) loop-again returns)

@@ -9,7 +9,6 @@ use Rattle.plan.specs.Weights.{summed}
 use Rattle.plan.proofs.Facts.{plan-facts}
 use Rattle.plan.proofs.BenefitLaws.{not-flat, flat-career, flat-final, final-code, none-at-entry, flat-benefit, career-benefit, final-benefit}
 use Rattle.plan.proofs.BenefitNeeds.{weights-most, all-paid, last-paid, paid-ages, age-low, age-high, now-some, now-most, years-most, last-ages}
-use borrow.Author.Needs.{needs}
 use Rattle.plan.proofs.benefit.benefit.Statement.{statement}
 use Rattle.plan.proofs.benefit.benefit.Tie as tie
 
@@ -18,12 +17,6 @@ returns c =
     let s = c .before in
     let a = s .args in
     sym (none-at-entry (a .p) (a .rows .now) (a .m) (now-some (a .p) (a .rows .now) (s .pre .0) (a .m) (s .pre .1)) (a .k) (c .if1 .taken))
-
-sub-years : tie.Need-sub-years
-sub-years c = search needs
-
-sub-row : tie.Need-sub-row
-sub-row c = search needs
 
 mul-row : tie.Need-mul-row
 mul-row c =
@@ -37,26 +30,11 @@ element-copy-out-row c =
     let a = s .args in
     omega (arith, age-low (a .p) (a .rows .now) (s .pre .0) (a .m) (s .pre .1), age-high (a .p) (a .rows .now) (s .pre .0) (a .m) (s .pre .1))
 
-array-read-wide : tie.Need-array-read-wide
-array-read-wide c = search needs
-
-wide-requires : tie.Need-wide-requires
-wide-requires c κs = search needs
-
-formula-of-requires : tie.Need-formula-of-requires
-formula-of-requires c κs = search needs
-
-enum-told : tie.Need-enum-told
-enum-told c = search needs
-
 mul-result : tie.Need-mul-result
 mul-result c =
     let s = c .before .before .before .before .before .before .before in
     let a = s .args in
     omega (arith, mul-le-mul {n₂ = 100000} {m₂ = 60} (plan-facts (a .p) (a .rows .now) (s .pre .0) .head .flat-unit) (years-most (a .p) (a .rows .now) (s .pre .0) (a .m) (s .pre .1) (a .k) (s .pre .3)))
-
-enum-told-2 : tie.Need-enum-told-2
-enum-told-2 c = search needs
 
 career-requires : tie.Need-career-requires
 career-requires c κs =
@@ -74,9 +52,6 @@ career-requires c κs =
       rw scale (now-some (a .p) (a .rows .now) (s .pre .0) (a .m) (s .pre .1)),
       rw scale (now-most (a .p) (a .rows .now) (s .pre .0) (a .m) (s .pre .1)),
     )
-
-enum-told-3 : tie.Need-enum-told-3
-enum-told-3 c = search needs
 
 sub-final-average : tie.Need-sub-final-average
 sub-final-average c =
@@ -141,23 +116,6 @@ returns-4 c =
 
 pub benefit-spec : {M : Type 1} → statement M
 benefit-spec =
-    tie.close
-    (tie.spec
-    returns
-    sub-years
-    sub-row
-    mul-row
-    element-copy-out-row
-    array-read-wide
-    wide-requires
-    formula-of-requires
-    enum-told
-    mul-result
-    enum-told-2
-    career-requires
-    enum-told-3
-    sub-final-average
-    final-average-requires
-    returns-2
-    returns-3
-    returns-4)
+    tie.close (tie.spec returns (omega arith) (omega arith) mul-row element-copy-out-row (omega arith) (search) (search)
+    (omega arith) mul-result (omega arith) career-requires (omega arith) sub-final-average final-average-requires
+    returns-2 returns-3 returns-4)

@@ -2,7 +2,6 @@
 use native.Mathlib.Nat.{mul-le-mul}
 use native.Mathlib.Omega.{arith}
 use Rattle.plan.proofs.BenefitNeeds.{career-fits}
-use borrow.Author.Needs.{needs}
 use Rattle.plan.proofs.benefit.career.Statement.{statement}
 use Rattle.plan.proofs.benefit.career.Tie as tie
 
@@ -12,16 +11,5 @@ mul-div-nearest c = let a = c .args in omega (arith, mul-le-mul {n₂ = 10000000
 mul-div-nearest-2 : tie.Need-mul-div-nearest-2
 mul-div-nearest-2 c = let a = c .args in omega (arith, career-fits (a .unit) (a .salary) (a .weights) (c .pre .0) (c .pre .1) (c .pre .2))
 
-mul-div-nearest-3 : tie.Need-mul-div-nearest-3
-mul-div-nearest-3 c = search needs
-
-div-nearest-requires : tie.Need-div-nearest-requires
-div-nearest-requires c κs = search needs
-
-returns : tie.Need-returns
-returns c = search needs
-
 pub career-spec : {M : Type 1} → statement M
-career-spec =
-    tie.close
-    (tie.spec mul-div-nearest mul-div-nearest-2 mul-div-nearest-3 div-nearest-requires returns)
+career-spec = tie.close (tie.spec mul-div-nearest mul-div-nearest-2 (omega arith) (omega arith) (omega arith))

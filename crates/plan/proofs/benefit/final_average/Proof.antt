@@ -2,39 +2,16 @@
 use native.Mathlib.Nat.{mul-le-mul, mul-pos}
 use native.Mathlib.Omega.{arith}
 use Rattle.plan.proofs.BenefitNeeds.{final-fits}
-use borrow.Author.Needs.{needs}
 use Rattle.plan.proofs.benefit.final_average.Statement.{statement}
 use Rattle.plan.proofs.benefit.final_average.Tie as tie
-
-mul-div-nearest : tie.Need-mul-div-nearest
-mul-div-nearest c = omega (arith, mul-le-mul {n₂ = 500} {m₂ = 60} (c .pre .0) (c .pre .1))
-
-mul-div-nearest-2 : tie.Need-mul-div-nearest-2
-mul-div-nearest-2 c = omega (arith, mul-le-mul {n₂ = 100000000} {m₂ = 1000000} (c .pre .2) (c .pre .3))
 
 mul-div-nearest-3 : tie.Need-mul-div-nearest-3
 mul-div-nearest-3 c = let a = c .args in omega (arith, final-fits (a .unit) (a .years) (a .salary) (a .weights) (c .pre .0) (c .pre .1) (c .pre .2) (c .pre .3))
 
-mul-div-nearest-4 : tie.Need-mul-div-nearest-4
-mul-div-nearest-4 c = omega (arith, mul-le-mul {n₂ = 10} {m₂ = 100000} (c .pre .5) (c .pre .7))
-
-mul-div-nearest-5 : tie.Need-mul-div-nearest-5
-mul-div-nearest-5 c = omega (arith, mul-le-mul {n₂ = 10} {m₂ = 100000} (c .pre .5) (c .pre .7))
-
-div-nearest-requires : tie.Need-div-nearest-requires
-div-nearest-requires c κs = omega (arith, mul-pos (c .pre .4) (c .pre .6))
-
-returns : tie.Need-returns
-returns c = search needs
-
 pub final-average-spec : {M : Type 1} → statement M
 final-average-spec =
-    tie.close
-    (tie.spec
-    mul-div-nearest
-    mul-div-nearest-2
-    mul-div-nearest-3
-    mul-div-nearest-4
-    mul-div-nearest-5
-    div-nearest-requires
-    returns)
+    tie.close (tie.spec (λ c. omega (arith, mul-le-mul {n₂ = 500} {m₂ = 60} (c .pre .0) (c .pre .1)))
+    (λ c. omega (arith, mul-le-mul {n₂ = 100000000} {m₂ = 1000000} (c .pre .2) (c .pre .3))) mul-div-nearest-3
+    (λ c. omega (arith, mul-le-mul {n₂ = 10} {m₂ = 100000} (c .pre .5) (c .pre .7)))
+    (λ c. omega (arith, mul-le-mul {n₂ = 10} {m₂ = 100000} (c .pre .5) (c .pre .7)))
+    (λ c κs. omega (arith, mul-pos (c .pre .4) (c .pre .6))) (omega arith))

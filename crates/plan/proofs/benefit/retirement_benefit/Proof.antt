@@ -1,4 +1,5 @@
 -- `plan::benefit::retirement_benefit` meets its contract.
+use native.Mathlib.Omega.{arith}
 use mathlib.Core.Path.{_≡_, ap, _∙_}
 use native.Mathlib.Nat.{le-refl, le-of-lt}
 use Rattle.plan.specs.declared.Formula.{Formula}
@@ -6,15 +7,8 @@ use Rattle.plan.specs.Weights.{firstPaid}
 use Rattle.plan.specs.Benefit.{formulaOf}
 use Rattle.plan.proofs.Facts.{plan-facts}
 use Rattle.plan.proofs.BenefitNeeds.{paid-ages}
-use borrow.Author.Needs.{needs}
 use Rattle.plan.proofs.benefit.retirement_benefit.Statement.{statement}
 use Rattle.plan.proofs.benefit.retirement_benefit.Tie as tie
-
-formula-of-requires : tie.Need-formula-of-requires
-formula-of-requires c κs = search needs
-
-first-paid-requires : tie.Need-first-paid-requires
-first-paid-requires c κs = le-of-lt (c .before .pre .1 .enters)
 
 -- the first age whose pay counts, by the definition
 first : (c : tie.After-first-paid) → let p = c .before .before .args .p in let m = c .before .before .args .m in c .first-paid .result ≡ firstPaid (formulaOf (p .formula)) (p .average) (m .entry) (p .retire)
@@ -32,9 +26,6 @@ benefit-requires c κs =
     let s = c .before .before .before in
     (s .pre .0, s .pre .1, le-of-lt (s .pre .1 .enters), le-refl (s .args .p .retire), first (c .before), c .weights-between .ensures)
 
-returns : tie.Need-returns
-returns c = search needs
-
 pub retirement-benefit-spec : {M : Type 1} → statement M
 retirement-benefit-spec =
-    tie.close (tie.spec formula-of-requires first-paid-requires weights-between-requires benefit-requires returns)
+    tie.close (tie.spec (search) (omega arith) weights-between-requires benefit-requires (omega arith))

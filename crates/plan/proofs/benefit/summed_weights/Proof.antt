@@ -1,5 +1,4 @@
 -- `plan::benefit::summed_weights` meets its contract.
-use borrow.Author.Needs.{needs}
 use mathlib.Core.Path.{_≡_, refl, sym, _∙_}
 use Prim.Native.Nat.{ℕ, _+_, _-_, _≤_}
 use native.Mathlib.Omega.{arith}
@@ -12,8 +11,7 @@ use Rattle.plan.proofs.benefit.summed_weights.Statement.{statement}
 use Rattle.plan.proofs.benefit.summed_weights.Tie as tie
 
 abbrev Inv-loop : tie.InvT-loop
-Inv-loop rows sums₀ j₀ sums j =
-    (j ≤ 105) × Upto (λ (k : ℕ). summed (weight rows) 15 (k - 15)) 15 (j + 16) sums
+Inv-loop rows sums₀ j₀ sums j = (j ≤ 105) × Upto (λ (k : ℕ). summed (weight rows) 15 (k - 15)) 15 (j + 16) sums
 
 abbrev μ-loop : tie.MeasureT-loop
 μ-loop rows sums₀ j₀ sums j = 105 - j
@@ -21,24 +19,6 @@ abbrev μ-loop : tie.MeasureT-loop
 loop-holds : tie.Need-loop-holds Inv-loop μ-loop
 unfolding summed
 loop-holds c = (omega arith, record { size = refl; each = λ k low high. let first : k - 15 ≡ 0 = omega arith in rw first })
-
-mul-row : tie.Need-mul-row Inv-loop μ-loop
-mul-row c = omega arith
-
-array-copy-out-row : tie.Need-array-copy-out-row Inv-loop μ-loop
-array-copy-out-row c = omega arith
-
-mul-sums : tie.Need-mul-sums Inv-loop μ-loop
-mul-sums c = omega arith
-
-array-read-sums : tie.Need-array-read-sums Inv-loop μ-loop
-array-read-sums c = omega (arith, c .before .before .loop .inv .1 .size)
-
-array-read-wide : tie.Need-array-read-wide Inv-loop μ-loop
-array-read-wide c = search needs
-
-wide-requires : tie.Need-wide-requires Inv-loop μ-loop
-wide-requires c κs = search needs
 
 -- what a turn stores is the sum to the next age
 stored : (c : tie.After-wide Inv-loop μ-loop) → let l = c .before .before .before .loop in getD (l .sums) (l .j) 0 + c .wide .result ≡ summed (weight (c .before .before .before .before .args .t1)) 15 (l .j + 16 - 15)
@@ -57,21 +37,6 @@ add-sums c =
     let l = c .before .before .before .loop in
     omega (arith, stored c, summed-most (weight (s .args .t1)) 100000 15 (l .j + 16 - 15) (λ k from to. s .pre k from (omega arith) .weight))
 
-add-sums-2 : tie.Need-add-sums-2 Inv-loop μ-loop
-add-sums-2 c = omega arith
-
-mul-sums-2 : tie.Need-mul-sums-2 Inv-loop μ-loop
-mul-sums-2 c = omega arith
-
-array-write-sums : tie.Need-array-write-sums Inv-loop μ-loop
-array-write-sums c = omega (arith, c .before .before .before .loop .inv .1 .size)
-
-add-j : tie.Need-add-j Inv-loop μ-loop
-add-j c = omega arith
-
-loop-less : tie.Need-loop-less Inv-loop μ-loop
-loop-less c = omega arith
-
 loop-again : tie.Need-loop-again Inv-loop μ-loop
 loop-again c =
     let l = c .before .before .before .loop in
@@ -87,22 +52,5 @@ returns c =
 
 pub summed-weights-spec : {M : Type 1} → statement M
 summed-weights-spec =
-    tie.close
-    (tie.spec
-    Inv-loop
-    μ-loop
-    loop-holds
-    mul-row
-    array-copy-out-row
-    mul-sums
-    array-read-sums
-    array-read-wide
-    wide-requires
-    add-sums
-    add-sums-2
-    mul-sums-2
-    array-write-sums
-    add-j
-    loop-less
-    loop-again
-    returns)
+    tie.close (tie.spec Inv-loop μ-loop loop-holds (omega arith) (omega arith) (omega arith) (omega arith) (omega arith)
+    (search) add-sums (omega arith) (omega arith) (omega arith) (omega arith) (omega arith) loop-again returns)

@@ -6,13 +6,11 @@ use native.Mathlib.Omega.{arith}
 use Rattle.annuity.specs.Basis.{weight}
 use Rattle.plan.specs.Weights.{summed}
 use Rattle.plan.proofs.WeightLaws.{summed-more, summed-most}
-use borrow.Author.Needs.{needs}
 use Rattle.plan.proofs.benefit.weights_between.Statement.{statement}
 use Rattle.plan.proofs.benefit.weights_between.Tie as tie
 
 abbrev Inv-loop : tie.InvT-loop
-Inv-loop rows a b sum₀ k₀ sum k =
-    (a ≤ k) × (k ≤ b) × (sum ≡ summed (weight rows) a (k - a))
+Inv-loop rows a b sum₀ k₀ sum k = (a ≤ k) × (k ≤ b) × (sum ≡ summed (weight rows) a (k - a))
 
 abbrev μ-loop : tie.MeasureT-loop
 μ-loop rows a b sum₀ k₀ sum k = b - k
@@ -23,21 +21,6 @@ loop-holds c =
     let a = c .args .a in
     let none : a - a ≡ 0 = omega arith in
     (le-refl a, c .pre .2, rw none)
-
-sub-row : tie.Need-sub-row Inv-loop μ-loop
-sub-row c = omega (arith, c .before .loop .inv .0, c .before .before .pre .1)
-
-mul-row : tie.Need-mul-row Inv-loop μ-loop
-mul-row c = omega (arith, c .before .before .pre .3)
-
-element-copy-out-row : tie.Need-element-copy-out-row Inv-loop μ-loop
-element-copy-out-row c = omega (arith, c .before .loop .inv .0, c .before .before .pre .1, c .before .before .pre .3)
-
-array-read-wide : tie.Need-array-read-wide Inv-loop μ-loop
-array-read-wide c = search needs
-
-wide-requires : tie.Need-wide-requires Inv-loop μ-loop
-wide-requires c κs = search needs
 
 -- a turn adds the weight of its age
 added : (c : tie.After-wide Inv-loop μ-loop) → let l = c .before .before .before .loop in let a = c .before .before .before .before .args in
@@ -56,12 +39,6 @@ add-sum c =
     let years : l .k + 1 - s .args .a ≤ 120 = omega (arith, c .before .before .loop-test .taken, s .pre .3) in
     omega (arith, added c, years, summed-most (weight (s .args .rows .now)) 100000 (s .args .a) (l .k + 1 - s .args .a) (λ j from to. s .pre .0 j (omega (arith, s .pre .1)) (omega (arith, s .pre .3, l .inv .0, c .before .before .loop-test .taken)) .weight))
 
-add-k : tie.Need-add-k Inv-loop μ-loop
-add-k c = omega (arith, c .before .before .before .before .pre .3)
-
-loop-less : tie.Need-loop-less Inv-loop μ-loop
-loop-less c = search needs
-
 loop-again : tie.Need-loop-again Inv-loop μ-loop
 loop-again c = let l = c .before .before .before .loop in (omega (arith, l .inv .0), omega arith, added c)
 
@@ -74,18 +51,5 @@ returns c =
 
 pub weights-between-spec : {M : Type 1} → statement M
 weights-between-spec =
-    tie.close
-    (tie.spec
-    Inv-loop
-    μ-loop
-    loop-holds
-    sub-row
-    mul-row
-    element-copy-out-row
-    array-read-wide
-    wide-requires
-    add-sum
-    add-k
-    loop-less
-    loop-again
-    returns)
+    tie.close (tie.spec Inv-loop μ-loop loop-holds (omega arith) (omega arith) (omega arith) (omega arith) (search)
+    add-sum (omega arith) (omega arith) loop-again returns)

@@ -1,14 +1,7 @@
 -- `plan::rules::average_rule` meets its contract.
 use borrow.Author.Tests.{eq-eqb, ne-eqb}
-use borrow.Author.Needs.{needs}
 use Rattle.plan.proofs.rules.average_rule.Statement.{statement}
 use Rattle.plan.proofs.rules.average_rule.Tie as tie
-
-unless-between-requires : tie.Need-unless-between-requires
-unless-between-requires c κs = search needs
-
-unless-requires : tie.Need-unless-requires
-unless-requires c κs = search needs
 
 returns : tie.Need-returns
 returns c = simp (eq-eqb (c .before .before .args .formula) 3 (c .before .if1 .taken)) (c .unless-between .ensures)
@@ -17,4 +10,4 @@ returns-2 : tie.Need-returns-2
 returns-2 c = simp (ne-eqb (c .before .before .args .formula) 3 (c .before .if1 .left)) (c .unless .ensures)
 
 pub average-rule-spec : {M : Type 1} → statement M
-average-rule-spec = tie.close (tie.spec unless-between-requires unless-requires returns returns-2)
+average-rule-spec = search (tie.close, tie.spec, returns, returns-2)

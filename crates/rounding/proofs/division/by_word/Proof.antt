@@ -1,18 +1,8 @@
 -- `rounding::division::by_word` meets its contract.
-use borrow.Author.Needs.{needs}
 use native.Mathlib.Omega.{arith}
 use native.Mathlib.Nat.{div-add-mod', mod-lt}
 use Rattle.rounding.proofs.division.by_word.Statement.{statement}
 use Rattle.rounding.proofs.division.by_word.Tie as tie
-
-div-quotient : tie.Need-div-quotient
-div-quotient c = search needs
-
-mul-remainder : tie.Need-mul-remainder
-mul-remainder c = omega (arith, div-add-mod' (c .args .n) (c .args .d))
-
-sub-remainder : tie.Need-sub-remainder
-sub-remainder c = omega (arith, div-add-mod' (c .args .n) (c .args .d))
 
 returns : tie.Need-returns
 returns c =
@@ -21,4 +11,6 @@ returns c =
     record { same = omega arith; less = omega (arith, mod-lt (a .n) (c .pre)) }
 
 pub by-word-spec : {M : Type 1} → statement M
-by-word-spec = tie.close (tie.spec div-quotient mul-remainder sub-remainder returns)
+by-word-spec =
+    tie.close (tie.spec (omega arith) (λ c. omega (arith, div-add-mod' (c .args .n) (c .args .d)))
+    (λ c. omega (arith, div-add-mod' (c .args .n) (c .args .d))) returns)

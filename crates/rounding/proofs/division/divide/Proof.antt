@@ -1,14 +1,10 @@
 -- `rounding::division::divide` meets its contract.
-use borrow.Author.Needs.{needs}
 use mathlib.Core.Path.{_≡_}
 use native.Mathlib.Omega.{arith}
 use Rattle.rounding.specs.declared.words.Wide.{Wide}
 use Rattle.rounding.specs.Words.{value}
 use Rattle.rounding.proofs.division.divide.Statement.{statement}
 use Rattle.rounding.proofs.division.divide.Tie as tie
-
-by-word-requires : tie.Need-by-word-requires
-by-word-requires c κs = search needs
 
 -- a high word of 0 adds nothing
 low-alone : (w : Wide) → w .high ≡ 0 → w .low ≡ value w
@@ -18,11 +14,5 @@ low-alone w e = omega arith
 returns : tie.Need-returns
 returns c = rw (low-alone (c .before .before .before .args .w) (c .before .if1 .taken)) at (c .by-word .ensures)
 
-by-reciprocal-requires : tie.Need-by-reciprocal-requires
-by-reciprocal-requires c κs = search needs
-
-returns-2 : tie.Need-returns-2
-returns-2 c = search needs
-
 pub divide-spec : {M : Type 1} → statement M
-divide-spec = tie.close (tie.spec by-word-requires returns by-reciprocal-requires returns-2)
+divide-spec = tie.close (tie.spec (omega arith) returns (omega arith) (omega arith))

@@ -13,19 +13,10 @@ Inv-loop t₀ d v t = whole d t ≡ whole d t₀
 abbrev μ-loop : tie.MeasureT-loop
 μ-loop t₀ d v t = value (t .left)
 
-loop-holds : tie.Need-loop-holds Inv-loop μ-loop
-loop-holds c = refl
-
 step-requires : tie.Need-step-requires Inv-loop μ-loop
 step-requires c κs =
     let k = c .before .before in
     (k .before .pre .0, rw (k .loop .inv) (k .before .pre .1))
-
-loop-less : tie.Need-loop-less Inv-loop μ-loop
-loop-less c = c .step .ensures .less (c .before .if1 .taken)
-
-loop-again : tie.Need-loop-again Inv-loop μ-loop
-loop-again c = c .step .ensures .same ∙ c .before .before .before .loop .inv
 
 last-requires : tie.Need-last-requires Inv-loop μ-loop
 last-requires c κs =
@@ -39,5 +30,5 @@ returns c =
 
 pub finish-spec : {M : Type 1} → statement M
 finish-spec =
-    tie.close
-    (tie.spec Inv-loop μ-loop loop-holds step-requires loop-less loop-again last-requires returns)
+    tie.close (tie.spec Inv-loop μ-loop (λ c. refl) step-requires (λ c. c .step .ensures .less (c .before .if1 .taken))
+    (omega arith) last-requires returns)

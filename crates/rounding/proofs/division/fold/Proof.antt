@@ -1,5 +1,4 @@
 -- `rounding::division::fold` meets its contract.
-use borrow.Author.Needs.{needs}
 use native.Mathlib.Omega.{arith}
 use Prim.Native.Nat.{_+_, _*_}
 use Rattle.rounding.proofs.Reciprocals.{quotient-fits}
@@ -11,11 +10,5 @@ add-t6 c =
     let a = c .before .args in
     omega (arith, quotient-fits (a .q + 1) (a .d) (a .q * a .d + a .x) (omega arith) (c .before .pre .1))
 
-returns : tie.Need-returns
-returns c = search needs
-
-returns-2 : tie.Need-returns-2
-returns-2 c = search needs
-
 pub fold-spec : {M : Type 1} → statement M
-fold-spec = tie.close (tie.spec add-t6 returns returns-2)
+fold-spec = tie.close (tie.spec add-t6 (omega arith) (omega arith))

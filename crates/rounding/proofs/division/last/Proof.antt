@@ -1,14 +1,10 @@
 -- `rounding::division::last` meets its contract.
-use borrow.Author.Needs.{needs}
 use native.Mathlib.Omega.{arith}
 use mathlib.Core.Path.{_≡_}
 use Prim.Native.Nat.{ℕ, _+_, _-_, _*_, _≤_}
 use Rattle.rounding.proofs.Reciprocals.{word-le, word-near, quotient-fits}
 use Rattle.rounding.proofs.division.last.Statement.{statement}
 use Rattle.rounding.proofs.division.last.Tie as tie
-
-product-requires : tie.Need-product-requires
-product-requires c κs = search needs
 
 -- what the reciprocal takes
 taken : (c : tie.After-product) → c .product .result .high * c .before .args .d ≤ c .before .args .n
@@ -18,12 +14,6 @@ add-fold : tie.Need-add-fold
 add-fold c =
     let a = c .before .args in
     omega (arith, quotient-fits (a .q + c .product .result .high) (a .d) (a .q * a .d + a .n) (omega (arith, taken c)) (c .before .pre .1))
-
-mul-fold : tie.Need-mul-fold
-mul-fold c = omega (arith, taken c)
-
-sub-fold : tie.Need-sub-fold
-sub-fold c = taken c
 
 same : (q k d n : ℕ) → k * d ≤ n → (q + k) * d + (n - k * d) ≡ q * d + n
 same q k d n h = omega arith
@@ -41,4 +31,4 @@ returns c =
     rw (same (a .q) (k .product .result .high) (a .d) (a .n) (taken k)) at (c .fold .ensures)
 
 pub last-spec : {M : Type 1} → statement M
-last-spec = tie.close (tie.spec product-requires add-fold mul-fold sub-fold fold-requires returns)
+last-spec = tie.close (tie.spec (search) add-fold (λ c. omega (arith, taken c)) (λ c. taken c) fold-requires returns)

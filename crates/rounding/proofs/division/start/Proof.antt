@@ -12,20 +12,13 @@ first : (w : Wide) (d : ℕ) → whole d (record { quotient = 0; left = w }) ≡
 unfolding whole
 first w d = omega arith
 
-step-requires : tie.Need-step-requires
-step-requires c κs = (c .pre .0, rw (first (c .args .w) (c .args .d)) (c .pre .1))
-
 one : (c : tie.After-step) → whole (c .before .args .d) (c .step .result) ≡ value (c .before .args .w)
 one c = c .step .ensures .same ∙ first (c .before .args .w) (c .before .args .d)
 
 step-requires-2 : tie.Need-step-requires-2
 step-requires-2 c κs = let k = c .before in (k .before .pre .0, rw (one k) (k .before .pre .1))
 
-returns : tie.Need-returns
-returns c = c .step2 .ensures .same ∙ one (c .before .before)
-
-returns-2 : tie.Need-returns-2
-returns-2 c = one (c .before)
-
 pub start-spec : {M : Type 1} → statement M
-start-spec = tie.close (tie.spec step-requires step-requires-2 returns returns-2)
+start-spec =
+    tie.close (tie.spec (λ c κs. (c .pre .0, rw (first (c .args .w) (c .args .d)) (c .pre .1))) step-requires-2
+    (λ c. c .step2 .ensures .same ∙ one (c .before .before)) (λ c. one (c .before)))

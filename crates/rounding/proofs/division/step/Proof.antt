@@ -1,5 +1,4 @@
 -- `rounding::division::step` meets its contract.
-use borrow.Author.Needs.{needs}
 use mathlib.Core.Path.{_≡_}
 use Prim.Native.Nat.{ℕ, _+_, _*_, _^_, _≤_, _<_}
 use native.Mathlib.Omega.{arith}
@@ -8,9 +7,6 @@ use Rattle.rounding.specs.Division.{whole}
 use Rattle.rounding.proofs.Reciprocals.{taken-le, taken-some, quotient-fits}
 use Rattle.rounding.proofs.division.step.Statement.{statement}
 use Rattle.rounding.proofs.division.step.Tie as tie
-
-product-requires : tie.Need-product-requires
-product-requires c κs = search needs
 
 -- how often d is taken
 times : tie.After-product → ℕ
@@ -25,25 +21,6 @@ unfolding whole
 fits c =
     let a = c .before .before .args in
     quotient-fits (a .t .quotient + times c) (a .d) (whole (a .d) (a .t)) (omega (arith, taken c)) (c .before .before .pre .1)
-
-mul-k : tie.Need-mul-k
-unfolding times
-mul-k c = omega (arith, fits (c .before))
-
-add-k : tie.Need-add-k
-unfolding times
-add-k c = omega (arith, fits (c .before .before))
-
-add-t7 : tie.Need-add-t7
-unfolding times
-add-t7 c = omega (arith, fits (c .before .before .before))
-
-product-requires-2 : tie.Need-product-requires-2
-product-requires-2 c κs = search needs
-
-minus-requires : tie.Need-minus-requires
-unfolding times
-minus-requires c κs = rw (c .product2 .ensures) (taken (c .before .before .before .before))
 
 same : (q k d r m w : ℕ) → m ≡ k * d → r + m ≡ w → (q + k) * d + r ≡ q * d + w
 same q k d r m w e f = omega arith
@@ -63,6 +40,8 @@ returns c =
     }
 
 pub step-spec : {M : Type 1} → statement M
+unfolding times
 step-spec =
-    tie.close
-    (tie.spec product-requires mul-k add-k add-t7 product-requires-2 minus-requires returns)
+    tie.close (tie.spec (search) (λ c. omega (arith, fits (c .before))) (λ c. omega (arith, fits (c .before .before)))
+    (λ c. omega (arith, fits (c .before .before .before))) (search)
+    (λ c κs. rw (c .product2 .ensures) (taken (c .before .before .before .before))) returns)

@@ -1,51 +1,14 @@
 -- `rounding::words::product` meets its contract.
-use borrow.Author.Needs.{needs}
 use mathlib.Core.Path.{_≡_, _∙_}
 use Prim.Native.Nat.{ℕ, _+_, _*_, _/_, _%_, _^_, _<_}
 use native.Mathlib.Omega.{arith}
 use Rattle.rounding.specs.Words.{value}
-use Rattle.rounding.proofs.Halves.{small, by-columns}
+use Rattle.rounding.proofs.Halves.{Small, small, by-columns}
 use Rattle.rounding.proofs.words.product.Statement.{statement}
 use Rattle.rounding.proofs.words.product.Tie as tie
 
-mul-first : tie.Need-mul-first
-mul-first c = let s = small (c .args .a) (c .args .b) (omega arith) (omega arith) in omega arith
-
-mul-second : tie.Need-mul-second
-mul-second c = let s = small (c .args .a) (c .args .b) (omega arith) (omega arith) in omega arith
-
-add-second : tie.Need-add-second
-add-second c = let s = small (c .args .a) (c .args .b) (omega arith) (omega arith) in omega arith
-
-mul-third : tie.Need-mul-third
-mul-third c = let s = small (c .args .a) (c .args .b) (omega arith) (omega arith) in omega arith
-
-add-third : tie.Need-add-third
-add-third c = let s = small (c .args .a) (c .args .b) (omega arith) (omega arith) in omega arith
-
-mul-high : tie.Need-mul-high
-mul-high c = let s = small (c .args .a) (c .args .b) (omega arith) (omega arith) in omega arith
-
-add-high : tie.Need-add-high
-add-high c = let s = small (c .args .a) (c .args .b) (omega arith) (omega arith) in omega arith
-
-add-high-2 : tie.Need-add-high-2
-add-high-2 c = let s = small (c .args .a) (c .args .b) (omega arith) (omega arith) in omega arith
-
-mul-middle : tie.Need-mul-middle
-mul-middle c = let s = small (c .args .a) (c .args .b) (omega arith) (omega arith) in omega arith
-
-mul-middle-2 : tie.Need-mul-middle-2
-mul-middle-2 c = let s = small (c .args .a) (c .args .b) (omega arith) (omega arith) in omega arith
-
-add-middle : tie.Need-add-middle
-add-middle c = search needs
-
-mul-wrapping-add-u64 : tie.Need-mul-wrapping-add-u64
-mul-wrapping-add-u64 c = search needs
-
-wrapping-add-u64-requires : tie.Need-wrapping-add-u64-requires
-wrapping-add-u64-requires c κs = search needs
+near : (c : tie.Start) → Small (c .args .a) (c .args .b)
+near c = small (c .args .a) (c .args .b) (omega arith) (omega arith)
 
 -- the low word, cut to 64 bits, of a sum of columns that is q * 2^64 + l
 middle : (x y : ℕ) → (x % 2 ^ 32 + y % 2 ^ 32) % 2 ^ 32 ≡ (x + y) % 2 ^ 32
@@ -69,19 +32,6 @@ returns c =
 
 pub product-spec : {M : Type 1} → statement M
 product-spec =
-    tie.close
-    (tie.spec
-    mul-first
-    mul-second
-    add-second
-    mul-third
-    add-third
-    mul-high
-    add-high
-    add-high-2
-    mul-middle
-    mul-middle-2
-    add-middle
-    mul-wrapping-add-u64
-    wrapping-add-u64-requires
-    returns)
+    tie.close (tie.spec (λ c. omega (arith, near c)) (λ c. omega (arith, near c)) (λ c. omega (arith, near c))
+    (λ c. omega (arith, near c)) (λ c. omega (arith, near c)) (λ c. omega (arith, near c)) (λ c. omega (arith, near c))
+    (λ c. omega (arith, near c)) (λ c. omega (arith, near c)) (λ c. omega (arith, near c)) (omega arith) (omega arith) (search) returns)
