@@ -5,4 +5,5 @@ pub mod Quotients
 pub mod Limits
 pub mod Needs
 pub mod Answers
+pub mod PartLaws
 pub mod FigureSizes

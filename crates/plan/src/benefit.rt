@@ -118,20 +118,13 @@ fn benefit(p: Plan, rows: &[[u32; 4]; 106], m: Member, k: u64, first: u64, weigh
     }
 }
 
-// B(r) alone.
-pub(crate) fn retirement_benefit(p: Plan, rows: &[[u32; 4]; 106], m: Member) -> u64
-    requires { ⌜ (planRefusal p (now rows) ≡ 0) × Placed p m ⌝ }
-    ensures { λ r. ⌜ r ≡ B p (now (rows .entry)) m (p .retire) ⌝ }
+// B(k), for an age k from entry to retirement.
+pub fn accrued_benefit(p: Plan, rows: &[[u32; 4]; 106], m: Member, k: u64) -> u64
+    requires { ⌜ (planRefusal p (now rows) ≡ 0) × Placed p m × (m .entry ≤ k) × (k ≤ p .retire) ⌝ }
+    ensures { λ r. ⌜ r ≡ B p (now (rows .entry)) m k ⌝ }
 {
-    let first = first_paid(formula_of(p.formula), p.average, m.entry, p.retire);
-    benefit(
-        p,
-        rows,
-        m,
-        p.retire,
-        first,
-        weights_between(rows, first, p.retire),
-    )
+    let first = first_paid(formula_of(p.formula), p.average, m.entry, k);
+    benefit(p, rows, m, k, first, weights_between(rows, first, k))
 }
 
 // B(k) for each age from entry to retirement.

@@ -1,0 +1,52 @@
+-- `costs::plain::adds` meets its contract.
+use mathlib.Core.Path.{_≡_}
+use Prim.Native.Nat.{_-_}
+use native.Mathlib.Nat.{le-of-lt}
+use native.Mathlib.Omega.{arith}
+use Rattle.plan.specs.Benefit.{B}
+use Rattle.costs.proofs.Needs.{sound, in-table}
+use borrow.Author.Needs.{needs}
+use Rattle.costs.proofs.plain.adds.Statement.{statement}
+use Rattle.costs.proofs.plain.adds.Tie as tie
+
+-- by AB what is earned is B(k)
+earned : (c : tie.After-accrued-benefit) → let a = c .before .before .before .args in a .earned ≡ B (a .p) (a .rows .now) (a .m) (a .k)
+earned c = rw (c .before .enum-told .given .1) at (c .before .before .before .pre .3)
+
+sub-result : tie.Need-sub-result
+sub-result c =
+    let s = c .before .before .before in
+    omega (arith, earned c, c .accrued-benefit .ensures, sound (s .args .p) (s .args .rows .now) (s .args .m) (s .pre .0) .rises (s .args .k) (s .pre .1) (s .pre .2))
+
+weight-requires : tie.Need-weight-requires
+weight-requires c κs =
+    let s = c .before .before .before in
+    in-table (s .args .p) (s .args .rows .now) (s .args .m) (s .pre .0) (s .args .k) (s .pre .1) (le-of-lt (s .pre .2))
+
+weight-requires-2 : tie.Need-weight-requires-2
+weight-requires-2 c κs =
+    let s = c .before .before .before in
+    in-table (s .args .p) (s .args .rows .now) (s .args .m) (s .pre .0) (s .args .k) (s .pre .1) (le-of-lt (s .pre .2))
+
+returns : tie.Need-returns
+returns c = rw (c .before .enum-told .given .1) (λ i. c .accrued-benefit .ensures i - earned c i)
+
+pub adds-spec : {M : Type 1} → statement M
+adds-spec =
+    tie.close
+    (tie.spec
+    (λ c. search needs)
+    (λ c. search needs)
+    (λ c κs. search needs)
+    sub-result
+    (λ c. search needs)
+    (λ c. search needs)
+    weight-requires
+    (λ c. search needs)
+    (λ c. search needs)
+    weight-requires-2
+    returns
+    (λ c. rw (c .enum-told2 .given .1))
+    (λ c. rw (c .before .before .enum-told3 .given .1) (c .weight .ensures))
+    (λ c. rw (c .enum-told4 .given .1))
+    (λ c. rw (c .before .before .enum-told5 .given .1) (c .weight2 .ensures)))
