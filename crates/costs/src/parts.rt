@@ -66,7 +66,7 @@ fn liability_factor(q: Parts, method: Method, value: u64) -> u64
 // benefit * deferred / S: what a benefit from r on is worth at the age of the factor.
 fn worth(benefit: u64, deferred: u64) -> u64
     requires { ⌜ (benefit ≤ 100000000) × (deferred ≤ 71 * S) ⌝ }
-    ensures { λ r. ⌜ r ≡ nearest (benefit * deferred) S ⌝ }
+    ensures { λ r. ⌜ (r ≡ nearest (benefit * deferred) S) × (r ≤ 7100000000) ⌝ }
 {
     rounding::mul_div_nearest(benefit, deferred, annuity::S)
 }

@@ -3,7 +3,6 @@ use Prim.Native.Nat.{_*_}
 use native.Mathlib.Nat.{mul-le-mul}
 use native.Mathlib.Omega.{arith}
 use Rattle.annuity.specs.Factors.{S}
-use Rattle.costs.proofs.Needs.{worth-most}
 use borrow.Author.Needs.{needs}
 use Rattle.costs.proofs.parts.cost_factor.Statement.{statement}
 use Rattle.costs.proofs.parts.cost_factor.Tie as tie
@@ -12,11 +11,6 @@ mul-result : tie.Need-mul-result
 mul-result c =
     let fits = c .before .before .before .pre .0 in
     omega (arith, mul-le-mul {n₂ = 100000000} {m₂ = 71 * S} (fits .benefit) (fits .entered))
-
-mul-result-2 : tie.Need-mul-result-2
-mul-result-2 c =
-    let s = c .before .before .before in
-    omega (arith, c .worth .ensures, worth-most (s .args .q .benefit) (s .args .q .entered) (s .pre .0 .entered), s .pre .0 .benefit)
 
 pub cost-factor-spec : {M : Type 1} → statement M
 cost-factor-spec =
@@ -29,9 +23,9 @@ cost-factor-spec =
     mul-result
     (λ c. search needs)
     (λ c κs. search needs)
-    mul-result-2
+    (λ c. search needs)
     (λ c. search needs)
     (λ c. search needs)
     (λ c. search needs)
     (λ c. rw (c .before .enum-told4 .given .1))
-    (λ c. rw (c .before .enum-told5 .given .1) (λ i. c .worth .ensures i * S)))
+    (λ c. rw (c .before .enum-told5 .given .1) (λ i. c .worth .ensures .0 i * S)))

@@ -14,7 +14,7 @@ returns c =
     let q = worked .before .args .q in
     let cost = c .before .before .share .ensures ∙ (λ i. nearest (c .before .before .before .cost-factor .ensures i * q .added) (q .divisor)) in
     let liability = c .share2 .ensures ∙ (λ i. nearest (c .before .liability-factor .ensures i * q .earned) (q .divisor)) in
-    λ i. record { benefit = q .benefit; value = worked .worth .ensures i; cost = cost i; liability = liability i }
+    λ i. record { benefit = q .benefit; value = worked .worth .ensures .0 i; cost = cost i; liability = liability i }
 
 pub figures-from-spec : {M : Type 1} → statement M
 figures-from-spec =

@@ -1,11 +1,12 @@
 -- `costs::plain::added` meets its contract.
+use native.Mathlib.Omega.{arith}
 use borrow.Author.Tests.{lt-ltb, le-ltb}
 use borrow.Author.Needs.{needs}
 use Rattle.costs.proofs.plain.added.Statement.{statement}
 use Rattle.costs.proofs.plain.added.Tie as tie
 
 returns : tie.Need-returns
-returns c = simp (le-ltb (c .before .args .k) (c .before .args .p .retire) (c .if1 .taken))
+returns c = simp (le-ltb (c .before .args .k) (c .before .args .p .retire) (omega (arith, c .if1 .taken)))
 
 returns-2 : tie.Need-returns-2
 returns-2 c =

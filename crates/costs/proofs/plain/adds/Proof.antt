@@ -1,10 +1,9 @@
 -- `costs::plain::adds` meets its contract.
 use mathlib.Core.Path.{_≡_}
 use Prim.Native.Nat.{_-_}
-use native.Mathlib.Nat.{le-of-lt}
 use native.Mathlib.Omega.{arith}
 use Rattle.plan.specs.Benefit.{B}
-use Rattle.costs.proofs.Needs.{sound, in-table}
+use Rattle.costs.proofs.Needs.{facts, sound}
 use borrow.Author.Needs.{needs}
 use Rattle.costs.proofs.plain.adds.Statement.{statement}
 use Rattle.costs.proofs.plain.adds.Tie as tie
@@ -21,12 +20,12 @@ sub-result c =
 weight-requires : tie.Need-weight-requires
 weight-requires c κs =
     let s = c .before .before .before in
-    in-table (s .args .p) (s .args .rows .now) (s .args .m) (s .pre .0) (s .args .k) (s .pre .1) (le-of-lt (s .pre .2))
+    omega (arith, facts (s .args .p) (s .args .rows .now) (s .args .m) (s .pre .0) .head .retire .1)
 
 weight-requires-2 : tie.Need-weight-requires-2
 weight-requires-2 c κs =
     let s = c .before .before .before in
-    in-table (s .args .p) (s .args .rows .now) (s .args .m) (s .pre .0) (s .args .k) (s .pre .1) (le-of-lt (s .pre .2))
+    omega (arith, facts (s .args .p) (s .args .rows .now) (s .args .m) (s .pre .0) .head .retire .1)
 
 returns : tie.Need-returns
 returns c = rw (c .before .enum-told .given .1) (λ i. c .accrued-benefit .ensures i - earned c i)
