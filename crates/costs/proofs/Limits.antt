@@ -89,11 +89,14 @@ module _ (c : Case) (sound : Sound c) where
   open Case c using (basis, B, y)
   open Sound sound using (fair, enters, weighty, climbs, capped, rises)
 
-  -- no benefit is above the last, and no weight below the first
+  -- no benefit is above a later one, and no weight below the first
+  pub B-rises : {k j : ℕ} → y ≤ k → k ≤ j → j ≤ r c → B k ≤ B j
+  B-rises {k} {j} yk kj jr =
+      let end : k + (j - k) ≡ j = omega arith in
+      rw end at (climb B k (j - k) (λ i from to. rises i (omega arith) (omega arith)))
+
   B-last : (k : ℕ) → y ≤ k → k ≤ r c → B k ≤ B (r c)
-  B-last k yk kr =
-      let end : k + (r c - k) ≡ r c = omega arith in
-      rw end at (climb B k (r c - k) (λ j from to. rises j (omega arith) (omega arith)))
+  B-last k yk kr = B-rises yk kr (le-refl (r c))
 
   pub B-most : (k : ℕ) → y ≤ k → k ≤ r c → B k ≤ 100000000
   B-most k yk kr = omega (arith, capped, B-last k yk kr)
@@ -106,18 +109,18 @@ module _ (c : Case) (sound : Sound c) where
   W-some : 1000 ≤ W c y
   W-some = weighty y (le-refl y) enters
 
-  M-split : (k : ℕ) → y ≤ k → k ≤ r c → M c ≡ summed (W c) y (k - y) + summed (W c) k (r c - k)
+  pub M-split : (k : ℕ) → y ≤ k → k ≤ r c → M c ≡ summed (W c) y (k - y) + summed (W c) k (r c - k)
   M-split k yk kr =
       let years : r c - y ≡ k - y + (r c - k) = omega arith in
       let there : y + (k - y) ≡ k = omega arith in
       rw years (rw there at (summed-split (W c) y (k - y) (r c - k)))
 
-  W-most : (k : ℕ) → y ≤ k → k < r c → W c k ≤ M c
+  pub W-most : (k : ℕ) → y ≤ k → k < r c → W c k ≤ M c
   unfolding summed
   W-most k yk kr =
       let years : r c - k ≡ suc (r c - k - 1) = omega arith in omega (arith, rw years at (M-split k yk (omega arith)))
 
-  M-above : 0 < M c
+  pub M-above : 0 < M c
   M-above = omega (arith, W-some, W-most y (le-refl y) enters)
 
   -- ---- G, and a benefit times G

@@ -1,25 +1,21 @@
--- What is known of an accepted member: its case is sound, and its factors and weights have their sizes.
-use mathlib.Core.Path.{_≡_}
+-- What is known of an accepted member: its case is sound, its ages lie in the table, and its factors have their sizes.
 use mathlib.Core.List.{List}
-use Prim.Native.Nat.{ℕ, _+_, _-_, _*_, _≤_, _<_}
+use Prim.Native.Nat.{ℕ, _-_, _*_, _≤_}
 use native.Mathlib.Nat.{mul-le-mul, mul-le-mul-right}
 use native.Mathlib.Omega.{arith}
 use Rattle.rounding.specs.Nearest.{nearest}
 use Rattle.rounding.proofs.NearestLaws.{nearest-mono, nearest-exact}
-use Rattle.annuity.specs.Basis.{Table, weight}
+use Rattle.annuity.specs.Basis.{Table}
 use Rattle.annuity.specs.Factors.{S, G, Z}
 use Rattle.annuity.proofs.Bases.{basis-fair}
 use Rattle.annuity.proofs.Sizes.{G-most, Z-least}
 use Rattle.plan.specs.declared.Plan.{Plan}
 use Rattle.plan.specs.declared.Member.{Member}
-use Rattle.plan.specs.Weights.{summed}
 use Rattle.plan.specs.Acceptance.{AcceptedMember}
 use Rattle.plan.proofs.Facts.{PlanFacts, plan-facts}
 use Rattle.plan.proofs.RiseLaws.{accepted-never-falls}
-use Rattle.plan.proofs.WeightLaws.{summed-split, summed-more}
 use Rattle.costs.specs.Case.{Sound}
 use Rattle.costs.specs.Valuation.{planBasis, caseOf}
-use Rattle.costs.proofs.RollForward.{M-positive}
 
 -- a product with a factor of 71 S at most, rounded, is 71 times the benefit at most
 pub worth-most : (benefit deferred : ℕ) → deferred ≤ 71 * S → nearest (benefit * deferred) S ≤ benefit * 71
@@ -44,12 +40,6 @@ module _ (p : Plan) (rows : List (List ℕ)) (m : Member) (accepted : AcceptedMe
         rises = accepted-never-falls p rows m (accepted .plan) (accepted .placed);
       }
 
-  -- the weights of the past are among all of them
-  pub past-among : (k : ℕ) → m .entry ≤ k → k ≤ p .retire → summed (weight rows) (m .entry) (k - m .entry) ≤ summed (weight rows) (m .entry) (p .retire - m .entry)
-  past-among k from to =
-      let years : p .retire - m .entry ≡ k - m .entry + (p .retire - k) = omega arith in
-      rw years (omega (arith, summed-split (weight rows) (m .entry) (k - m .entry) (p .retire - k)))
-
   -- an age of its own lies in the table
   pub in-table : (k : ℕ) → m .entry ≤ k → k ≤ p .retire → (15 ≤ k) × (k ≤ 120)
   in-table k from to = (omega (arith, accepted .placed .grown), omega (arith, facts .head .retire .1))
@@ -66,16 +56,3 @@ module _ (p : Plan) (rows : List (List ℕ)) (m : Member) (accepted : AcceptedMe
   pub pay-least : 1000 * S ≤ Z (planBasis p rows) (m .entry) (p .retire)
   pay-least =
       omega (arith, Z-least (planBasis p rows) (m .entry) (p .retire) (accepted .placed .enters), mul-le-mul-right S (facts .least (m .entry) (accepted .placed .grown) (omega (arith, accepted .placed .enters, facts .head .retire .1))))
-
-  pub years-some : 0 < p .retire - m .entry
-  years-some = omega (arith, accepted .placed .enters)
-
-  pub weights-some : 0 < summed (weight rows) (m .entry) (p .retire - m .entry)
-  weights-some = M-positive (caseOf p rows m) sound
-
-  -- the weight of an age below r is among them
-  pub weight-among : (k : ℕ) → m .entry ≤ k → k < p .retire → weight rows k ≤ summed (weight rows) (m .entry) (p .retire - m .entry)
-  weight-among k from to =
-      let years : p .retire - m .entry ≡ k - m .entry + 1 + (p .retire - (k + 1)) = omega arith in
-      let there : m .entry + (k - m .entry) ≡ k = omega arith in
-      rw years (omega (arith, summed-split (weight rows) (m .entry) (k - m .entry + 1) (p .retire - (k + 1)), rw there at (summed-more (weight rows) (m .entry) (k - m .entry))))

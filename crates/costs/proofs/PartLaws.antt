@@ -21,8 +21,8 @@ use Rattle.costs.specs.Case.{Case}
 use Rattle.costs.specs.Costs.{PV, cost, N, L}
 use Rattle.costs.specs.Valuation.{planBasis, caseOf, figuresAt}
 use Rattle.costs.specs.Parts.{earned, adds, divisor, partsAt, costFactor, liabilityFactor, figuresFrom, From-Parts}
-use Rattle.costs.proofs.Limits.{B-most}
-use Rattle.costs.proofs.Needs.{facts, sound, years-some, weights-some, past-among, weight-among, G-small, pay-least}
+use Rattle.costs.proofs.Limits.{B-most, M-split, W-most, M-above}
+use Rattle.costs.proofs.Needs.{facts, sound, G-small, pay-least}
 
 module _ (p : Plan) (rows : List (List ℕ)) (m : Member) (accepted : AcceptedMember p rows m) where
   abbrev c : Case
@@ -32,24 +32,24 @@ module _ (p : Plan) (rows : List (List ℕ)) (m : Member) (accepted : AcceptedMe
   fair = basis-fair rows (p .retire) (p .interest)
 
   -- ---- the parts fit
-  divided : (method : Method) → 0 < divisor c method
+  pub divided : (method : Method) → 0 < divisor c method
   divided AB = omega arith
-  divided BD = years-some p rows m accepted
-  divided BP = weights-some p rows m accepted
+  divided BD = omega (arith, accepted .placed .enters)
+  divided BP = M-above c (sound p rows m accepted)
   divided CD = omega (arith, T-least (planBasis p rows) (m .entry) (p .retire) (accepted .placed .enters))
   divided CP = omega (arith, pay-least p rows m accepted)
 
-  earned-most : (method : Method) (k : ℕ) → m .entry ≤ k → k ≤ p .retire → earned c k method ≤ divisor c method
+  pub earned-most : (method : Method) (k : ℕ) → m .entry ≤ k → k ≤ p .retire → earned c k method ≤ divisor c method
   earned-most AB k from to = omega (arith, B-most c (sound p rows m accepted) k from to)
   earned-most BD k from to = omega arith
-  earned-most BP k from to = past-among p rows m accepted k from to
+  earned-most BP k from to = omega (arith, M-split c (sound p rows m accepted) k from to)
   earned-most CD k from to = T-longer (planBasis p rows) fair (m .entry) k (p .retire) from to
   earned-most CP k from to = Z-longer (planBasis p rows) fair (m .entry) k (p .retire) from to
 
-  adds-most : (method : Method) (k : ℕ) → m .entry ≤ k → k < p .retire → adds c k method ≤ divisor c method
+  pub adds-most : (method : Method) (k : ℕ) → m .entry ≤ k → k < p .retire → adds c k method ≤ divisor c method
   adds-most AB k from below = omega (arith, B-most c (sound p rows m accepted) (k + 1) (omega arith) (omega arith))
-  adds-most BD k from below = years-some p rows m accepted
-  adds-most BP k from below = weight-among p rows m accepted k from below
+  adds-most BD k from below = divided BD
+  adds-most BP k from below = W-most c (sound p rows m accepted) k from below
   adds-most CD k from below = divided CD
   adds-most CP k from below =
       let f = facts p rows m accepted in

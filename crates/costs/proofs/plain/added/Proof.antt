@@ -6,12 +6,12 @@ use Rattle.costs.proofs.plain.added.Statement.{statement}
 use Rattle.costs.proofs.plain.added.Tie as tie
 
 returns : tie.Need-returns
-returns c = simp (le-ltb (c .before .args .k) (c .before .args .p .retire) (omega (arith, c .if1 .taken)))
+returns c = simp (le-ltb (c .before .args .k) (c .before .args .p .retire) (omega arith))
 
 returns-2 : tie.Need-returns-2
 returns-2 c =
     let a = c .before .before .args in
-    simp (lt-ltb (a .k) (a .p .retire) (c .before .if1 .left)) (c .adds .ensures)
+    simp (lt-ltb (a .k) (a .p .retire) (omega arith)) (c .adds .ensures)
 
 pub added-spec : {M : Type 1} → statement M
 added-spec =

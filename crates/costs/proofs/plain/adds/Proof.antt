@@ -3,6 +3,8 @@ use mathlib.Core.Path.{_≡_}
 use Prim.Native.Nat.{_-_}
 use native.Mathlib.Omega.{arith}
 use Rattle.plan.specs.Benefit.{B}
+use Rattle.costs.specs.Valuation.{caseOf}
+use Rattle.costs.proofs.Limits.{B-rises}
 use Rattle.costs.proofs.Needs.{facts, sound}
 use borrow.Author.Needs.{needs}
 use Rattle.costs.proofs.plain.adds.Statement.{statement}
@@ -15,7 +17,8 @@ earned c = rw (c .before .enum-told .given .1) at (c .before .before .before .pr
 sub-result : tie.Need-sub-result
 sub-result c =
     let s = c .before .before .before in
-    omega (arith, earned c, c .accrued-benefit .ensures, sound (s .args .p) (s .args .rows .now) (s .args .m) (s .pre .0) .rises (s .args .k) (s .pre .1) (s .pre .2))
+    let a = s .args in
+    rw (earned c, c .accrued-benefit .ensures) (B-rises (caseOf (a .p) (a .rows .now) (a .m)) (sound (a .p) (a .rows .now) (a .m) (s .pre .0)) (s .pre .1) (omega arith) (omega arith))
 
 weight-requires : tie.Need-weight-requires
 weight-requires c κs =
