@@ -1,4 +1,4 @@
--- Demand 3, roll-forward and the equal forms of the liability (RollForward, EqualForms), and the limits (Quotients, Limits).
+-- Demand 3, roll-forward and the equal forms of the liability (RollForward, EqualForms), and the limits (Quotients, Limits); and the figures from their parts (PartLaws).
 pub mod RollForward
 pub mod EqualForms
 pub mod Quotients

@@ -21,6 +21,7 @@ use Rattle.plan.specs.Weights.{summed}
 use Rattle.plan.proofs.WeightLaws.{summed-split}
 use Rattle.costs.specs.Costs.{r, W, M, PV, PV*, cost, cost*, N, N*, L, L*}
 use Rattle.costs.specs.Demand3.{V-limit, N-limit, L-limit, Sharp-Limits, N-most, Limits}
+use Rattle.costs.proofs.RollForward.{M-positive}
 use Rattle.costs.proofs.Quotients.{close-refl, Divisor, Share, exact, exact-part, over-divisor, near-part, Factor, strays, product}
 
 -- ---- the limits in numbers
@@ -120,9 +121,6 @@ module _ (c : Case) (sound : Sound c) where
   W-most k yk kr =
       let years : r c - k ≡ suc (r c - k - 1) = omega arith in omega (arith, rw years at (M-split k yk (omega arith)))
 
-  pub M-above : 0 < M c
-  M-above = omega (arith, W-some, W-most y (le-refl y) enters)
-
   -- ---- G, and a benefit times G
   G-most : (k : ℕ) → G* basis k ≼ G-top
   G-most k = G*-most basis fair k (omega arith) ∙≼ whole-≼ (omega arith)
@@ -196,7 +194,7 @@ module _ (c : Case) (sound : Sound c) where
       rw (mul-one, ⊗-one) at
       (product (PV-factor k yk (omega arith)) (exact-part 1 (r c - y) (omega arith) (omega arith)) (numbers (B (r c)) .exact-share))
   cost-within BP k yk kr =
-      product (PV-factor k yk (omega arith)) (exact-part (W c k) (M c) M-above (W-most k yk kr)) (numbers (B (r c)) .exact-share)
+      product (PV-factor k yk (omega arith)) (exact-part (W c k) (M c) (M-positive c sound) (W-most k yk kr)) (numbers (B (r c)) .exact-share)
   cost-within CD k yk kr =
       benefit y (le-refl y) (omega arith)
       (over-divisor (B (r c)) T-divisor (share-of (B (r c)) (B (r c)) (T basis y (r c)) (le-refl (B (r c))) (T-least basis y (r c) enters)))
@@ -212,7 +210,7 @@ module _ (c : Case) (sound : Sound c) where
   L-within BD k yk kr =
       product (PV-factor k yk kr) (exact-part (k - y) (r c - y) (omega arith) (omega arith)) (numbers (B (r c)) .exact-share)
   L-within BP k yk kr =
-      product (PV-factor k yk kr) (exact-part (summed (W c) y (k - y)) (M c) M-above (omega (arith, M-split k yk kr)))
+      product (PV-factor k yk kr) (exact-part (summed (W c) y (k - y)) (M c) (M-positive c sound) (omega (arith, M-split k yk kr)))
       (numbers (B (r c)) .exact-share)
   L-within CD k yk kr =
       product (PV-factor k yk kr)

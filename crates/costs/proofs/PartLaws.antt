@@ -21,7 +21,8 @@ use Rattle.costs.specs.Case.{Case}
 use Rattle.costs.specs.Costs.{PV, cost, N, L}
 use Rattle.costs.specs.Valuation.{planBasis, caseOf, figuresAt}
 use Rattle.costs.specs.Parts.{earned, adds, divisor, partsAt, costFactor, liabilityFactor, figuresFrom, From-Parts}
-use Rattle.costs.proofs.Limits.{B-most, M-split, W-most, M-above}
+use Rattle.costs.proofs.RollForward.{M-positive}
+use Rattle.costs.proofs.Limits.{B-most, M-split, W-most}
 use Rattle.costs.proofs.Needs.{facts, sound, G-small, pay-least}
 
 module _ (p : Plan) (rows : List (List ℕ)) (m : Member) (accepted : AcceptedMember p rows m) where
@@ -35,7 +36,7 @@ module _ (p : Plan) (rows : List (List ℕ)) (m : Member) (accepted : AcceptedMe
   pub divided : (method : Method) → 0 < divisor c method
   divided AB = omega arith
   divided BD = omega (arith, accepted .placed .enters)
-  divided BP = M-above c (sound p rows m accepted)
+  divided BP = M-positive c (sound p rows m accepted)
   divided CD = omega (arith, T-least (planBasis p rows) (m .entry) (p .retire) (accepted .placed .enters))
   divided CP = omega (arith, pay-least p rows m accepted)
 

@@ -1,4 +1,4 @@
--- The parts of a member's figures at one age: the numbers that the equations of RULES section 9 are made of, whatever engine works them, and the figures that they give by each of the five methods.
+-- The parts of a member's figures at an age k: six numbers, whatever engine works them, of which rules 9.1 to 9.8 make V, N and L by any of the five methods. That these are the figures of specs/Valuation.antt is one law, `From-Parts`.
 use mathlib.Core.Path.{_≡_}
 use mathlib.Core.Bool.{cond}
 use mathlib.Core.List.{List}
@@ -22,7 +22,7 @@ use Rattle.costs.specs.Valuation.{caseOf, figuresAt}
 module _ (c : Case) where
   open Case c using (basis, y)
 
-  -- rules 9.2 to 9.6, what N and L are divided by
+  -- rules 9.2 to 9.6: what N and L are divided by
   abbrev pub divisor : Method → ℕ
   divisor AB = S
   divisor BD = r c - y
@@ -33,7 +33,7 @@ module _ (c : Case) where
 module _ (c : Case) (k : ℕ) where
   open Case c using (basis, B, y)
 
-  -- what L counts, at age k: benefit, years, weights and the two annuities, from entry up to k
+  -- rules 9.2 to 9.6: what L counts, from entry up to k, in benefit, years, weights or one of the two annuities
   abbrev pub earned : Method → ℕ
   earned AB = B k
   earned BD = k - y
@@ -41,7 +41,7 @@ module _ (c : Case) (k : ℕ) where
   earned CD = T basis y k
   earned CP = Z basis y k
 
-  -- what N counts: what the year from k on adds, and of the two annuities what is paid in it
+  -- rules 9.2 to 9.6: what N counts, that of the year from k on; of an annuity, what is paid in the year
   abbrev pub adds : Method → ℕ
   adds AB = B (k + 1) - B k
   adds BD = 1
@@ -53,6 +53,7 @@ module _ (c : Case) (k : ℕ) where
   abbrev pub added : Method → ℕ
   added m = cond (ltb k (r c)) (adds m) 0
 
+  -- B(r), G(k), G(y), and these three
   unfoldable pub partsAt : Method → Parts
   partsAt m =
       record { benefit = B (r c); deferred = G basis k; entered = G basis y; earned = earned m; added = added m; divisor = divisor c m }
@@ -63,7 +64,7 @@ module _ (q : Parts) where
   abbrev pub valueFrom : ℕ
   valueFrom = nearest (q .benefit * q .deferred) S
 
-  -- rules 9.2 to 9.6: what N multiplies by what is added; by CP V(y), from entry on
+  -- rules 9.2 to 9.6: N is this, times what is added: G(k), V(k), B(r) × G(y) unrounded, or V(y) × S
   abbrev pub costFactor : Method → ℕ
   costFactor AB = q .deferred
   costFactor BD = valueFrom
@@ -71,7 +72,7 @@ module _ (q : Parts) where
   costFactor CD = q .benefit * q .entered
   costFactor CP = nearest (q .benefit * q .entered) S * S
 
-  -- and L by what is earned
+  -- and L is this, times what is earned
   abbrev pub liabilityFactor : Method → ℕ
   liabilityFactor AB = q .deferred
   liabilityFactor BD = valueFrom
@@ -84,7 +85,7 @@ module _ (q : Parts) where
   figuresFrom m =
       record { benefit = q .benefit; value = valueFrom; cost = nearest (costFactor m * q .added) (q .divisor); liability = nearest (liabilityFactor m * q .earned) (q .divisor) }
 
--- so small that each product fits, whatever the method
+-- parts so small that each product and each figure fits a word, by any method: rule 7.8, sizes of factors, and no share above 1
 pub record Fits (q : Parts) : Type 0 where
   pub benefit : q .benefit ≤ 100000000
   pub deferred : q .deferred ≤ 71 * S
@@ -93,7 +94,7 @@ pub record Fits (q : Parts) : Type 0 where
   pub added : q .added ≤ q .divisor
   pub divisor : 0 < q .divisor
 
--- ---- the law: of an accepted member, by each of the five methods and at each age of its own, the parts fit and the figures from them are the figures
+-- ---- the law: of every accepted member, by each of the five methods and at each age of its own (rule 9.9), the parts fit, and what they give are the figures
 pub record Gives (p : Plan) (rows : List (List ℕ)) (m : Member) (method : Method) (k : ℕ) : Type 0 where
   pub fits : Fits (partsAt (caseOf p rows m) k method)
   pub figures : figuresFrom (partsAt (caseOf p rows m) k method) method ≡ figuresAt p rows m method k

@@ -35,7 +35,7 @@ pub fn figures_from(q: Parts, method: Method) -> Figures
     }
 }
 
-// What N multiplies by what is added.
+// What N has beside what is added. Both products fit a word: a benefit is 10^8 at most, and a factor 71 S.
 fn cost_factor(q: Parts, method: Method, value: u64) -> u64
     requires { ⌜ Fits q × (value ≡ valueFrom q) ⌝ }
     ensures { λ r. ⌜ r ≡ costFactor q method ⌝ }
@@ -49,7 +49,7 @@ fn cost_factor(q: Parts, method: Method, value: u64) -> u64
     }
 }
 
-// What L multiplies by what is earned.
+// What L has beside what is earned.
 fn liability_factor(q: Parts, method: Method, value: u64) -> u64
     requires { ⌜ value ≡ valueFrom q ⌝ }
     ensures { λ r. ⌜ r ≡ liabilityFactor q method ⌝ }

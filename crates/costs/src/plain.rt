@@ -69,7 +69,7 @@ fn added(p: Plan, rows: &[[u32; 4]; 106], m: Member, method: Method, k: usize, e
     adds(p, rows, m, method, k, earned)
 }
 
-// The same below r.
+// The same below r. By AB that is B(k+1) less what is earned, so that B(k) is worked once.
 fn adds(p: Plan, rows: &[[u32; 4]; 106], m: Member, method: Method, k: usize, earned: u64) -> u64
     requires { ⌜ AcceptedMember p (now rows) m × (m .entry ≤ k) × (k < p .retire) × (earned ≡ Parts·earned (caseOf p (now rows) m) k method) ⌝ }
     ensures { λ r. ⌜ r ≡ Parts·adds (caseOf p (now (rows .entry)) m) k method ⌝ }
@@ -83,7 +83,7 @@ fn adds(p: Plan, rows: &[[u32; 4]; 106], m: Member, method: Method, k: usize, ea
     }
 }
 
-// What both are divided by.
+// What N and L are divided by.
 fn divisor(p: Plan, rows: &[[u32; 4]; 106], m: Member, method: Method) -> u64
     requires { ⌜ AcceptedMember p (now rows) m ⌝ }
     ensures { λ r. ⌜ r ≡ Parts·divisor (caseOf p (now (rows .entry)) m) method ⌝ }

@@ -27,9 +27,4 @@ returns c =
 
 pub figures-of-spec : {M : Type 1} → statement M
 figures-of-spec =
-    tie.close
-    (tie.spec
-    (λ c κs. search needs)
-    (λ c κs. search needs)
-    figures-from-requires
-    returns)
+    tie.close (tie.spec (λ c κs. search needs) (λ c κs. search needs) figures-from-requires returns)

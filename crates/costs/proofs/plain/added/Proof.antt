@@ -14,9 +14,4 @@ returns-2 c =
     simp (lt-ltb (a .k) (a .p .retire) (omega arith)) (c .adds .ensures)
 
 pub added-spec : {M : Type 1} → statement M
-added-spec =
-    tie.close
-    (tie.spec
-    returns
-    (λ c κs. search needs)
-    returns-2)
+added-spec = tie.close (tie.spec returns (λ c κs. search needs) returns-2)

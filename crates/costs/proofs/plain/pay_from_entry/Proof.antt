@@ -22,9 +22,4 @@ returns c =
     c .of-age .ensures ∙ c .before .before .pay-annuity .ensures .upto (s .args .m .entry) (s .pre .0 .placed .grown) (s .pre .1)
 
 pub pay-from-entry-spec : {M : Type 1} → statement M
-pay-from-entry-spec =
-    tie.close
-    (tie.spec
-    pay-annuity-requires
-    of-age-requires
-    returns)
+pay-from-entry-spec = tie.close (tie.spec pay-annuity-requires of-age-requires returns)

@@ -10,8 +10,4 @@ weights-between-requires c κs =
     (facts (a .p) (a .rows .now) (a .m) (c .pre .0) .table, c .pre .0 .placed .grown, c .pre .1, in-table (a .p) (a .rows .now) (a .m) (c .pre .0) (a .e) (c .pre .1) (c .pre .2) .1)
 
 pub weights-from-entry-spec : {M : Type 1} → statement M
-weights-from-entry-spec =
-    tie.close
-    (tie.spec
-    weights-between-requires
-    (λ c. search needs))
+weights-from-entry-spec = tie.close (tie.spec weights-between-requires (λ c. search needs))

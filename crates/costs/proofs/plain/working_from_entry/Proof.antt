@@ -22,9 +22,4 @@ returns c =
     c .of-age .ensures ∙ c .before .before .working-annuity .ensures .upto (s .args .m .entry) (s .pre .0 .placed .grown) (s .pre .1)
 
 pub working-from-entry-spec : {M : Type 1} → statement M
-working-from-entry-spec =
-    tie.close
-    (tie.spec
-    working-annuity-requires
-    of-age-requires
-    returns)
+working-from-entry-spec = tie.close (tie.spec working-annuity-requires of-age-requires returns)
