@@ -71,48 +71,26 @@ pub fn place(k: u64) -> usize {
     k as usize - FIRST
 }
 
-/// B(r) alone.
-fn retirement_benefit(plan: &Plan, rows: &Rows, m: &Member) -> u64 {
-    benefit(plan, rows, m, plan.retire, |from| weights(rows, from, plan.retire))
-}
-
 /// The weights of the ages from a to b - 1, summed.
 pub fn weights(rows: &Rows, a: u64, b: u64) -> u64 {
     rows[place(a)..place(b)].iter().map(|row| row[3] as u64).sum()
 }
 
-/// B(k) for each age from entry to retirement.
-pub fn accrued_benefits(plan: &Plan, rows: &Rows, m: &Member) -> [u64; AGES] {
-    let sums = summed_weights(rows);
-    let mut benefits = [0; AGES];
-    for k in m.entry + 1..=plan.retire {
-        benefits[place(k)] = benefit(plan, rows, m, k, |from| sums[place(k)] - sums[place(from)]);
+/// B(k). One word holds these products: the largest is 500 * 60 * 100,000,000 * 1,000,000.
+pub fn accrued_benefit(plan: &Plan, rows: &Rows, m: &Member, k: u64) -> u64 {
+    if k <= m.entry {
+        return 0;
     }
-    benefits
-}
-
-/// B(k), where `weights(a)` sums the weights of the ages from a to k - 1. One word holds these products: the largest is
-/// 500 * 60 * 100,000,000 * 1,000,000.
-fn benefit(plan: &Plan, rows: &Rows, m: &Member, k: u64, weights: impl Fn(u64) -> u64) -> u64 {
     let years = k - m.entry;
     let now = rows[place(m.age)][3] as u64;
     match plan.formula {
         Formula::Flat => plan.unit * years,
-        Formula::Career => nearest_word(plan.unit * m.salary * weights(m.entry), 10_000 * now),
+        Formula::Career => nearest_word(plan.unit * m.salary * weights(rows, m.entry, k), 10_000 * now),
         Formula::Final => {
             let n = plan.average.min(years);
-            nearest_word(plan.unit * years * m.salary * weights(k - n), 10_000 * n * now)
+            nearest_word(plan.unit * years * m.salary * weights(rows, k - n, k), 10_000 * n * now)
         }
     }
-}
-
-/// The weights of the ages before each age, summed from 15 on.
-fn summed_weights(rows: &Rows) -> [u64; AGES] {
-    let mut sums = [0; AGES];
-    for j in 1..AGES {
-        sums[j] = sums[j - 1] + rows[j - 1][3] as u64;
-    }
-    sums
 }
 
 // ---- the range rules: a refusal's number, 0 for none
@@ -160,7 +138,7 @@ fn member_rule(plan: &Plan, rows: &Rows, before: u64, m: &Member) -> u64 {
     if m.salary > MOST_SALARY {
         return 24;
     }
-    unless(retirement_benefit(plan, rows, m) <= MOST_BENEFIT, 25)
+    unless(accrued_benefit(plan, rows, m, plan.retire) <= MOST_BENEFIT, 25)
 }
 
 // ---- the lines

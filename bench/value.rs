@@ -1,17 +1,16 @@
 //! What the valuation of a case file costs in Rattle, beside a Rust program in u128 that works the same factors: each
-//! member's own A and G and then T or Z, year step by year step, B(r) to accept it and B(k) for each age to value it;
-//! with reading, accepting and printing. bench/run builds and runs it. The sides take turns, and the best round of each
-//! counts; Python's oracle is run once, as a process, for scale. Exits 1 where the answers or a byte of the buffers
-//! differ, of these files, of drawn plans or of damaged files.
+//! member's own A and G and then T or Z, year step by year step, B(r) to accept it and again to value it, and by AB
+//! B(x) and B(x+1); with reading, accepting and printing. bench/run builds and runs it. The sides take turns, and the
+//! best round of each counts; Python's oracle is run once, as a process, for scale. Exits 1 where the answers or a byte
+//! of the buffers differ, of these files, of drawn plans or of damaged files.
 //!
-//! The same on both sides: the answers and every byte of the buffer; A, G and B(k) of each member, and nothing shared
-//! from one member to the next. What differs:
+//! The same on both sides: the answers and every byte of the buffer; each factor, benefit and sum of weights of a member
+//! worked once, and nothing shared from one member to the next. What differs:
 //! - per file, reading and accepting, as casefile.rs says. Rattle keeps the figures in an array of 32,000 bytes that it
 //!   clears, adds up the lengths of all lines and then writes them where they belong; Rust writes each line at once to
 //!   a Vec that grows, and copies that out where it fits;
-//! - per member, Rattle works T(y,r) or Z(y,r) twice by CD and CP, and M by BP, once for N and once for L, and works
-//!   V(x) anew for each N and L that rests on it; Rust works each once. At x = r Rattle leaves N out, which Rust works
-//!   and drops;
+//! - per member, Rattle makes N and L of the same six numbers by any method: by CD it multiplies by the one year that is
+//!   added, and at x = r by none, where Rust works N and drops it;
 //! - in Rattle the rows go by value, 1,696 bytes, to the functions that document 01 wants so; and each side rounds as in
 //!   bench/rounding, but for the two roundings of staying, which divide a word by a constant on both.
 mod factors;
@@ -73,7 +72,7 @@ mod rattle {
 mod rust {
     use super::Answer;
     use super::factors::{Factors, LAST, Row, Rows, S, fill, nearest};
-    use super::reader::{Case, Member, Method, Plan, accrued_benefits, place, walk, weights};
+    use super::reader::{Case, Member, Method, Plan, accrued_benefit, place, walk, weights};
 
     #[derive(Clone, Copy)]
     struct Figures {
@@ -117,15 +116,16 @@ mod rust {
     /// The figures of an accepted member, by the plan's method.
     fn figures(plan: &Plan, rows: &Rows, m: &Member) -> Figures {
         let (y, x, r) = (m.entry, m.age, plan.retire);
-        let benefits = accrued_benefits(plan, rows, m);
+        let b = |k: u64| accrued_benefit(plan, rows, m, k);
         let deferred = deferred_annuity(plan, rows);
-        let b = |k: u64| benefits[place(k)];
         let g = |k: u64| deferred[place(k)];
-        let value = share(b(r), g(x), S);
+        let benefit = b(r);
+        let value = share(benefit, g(x), S);
         let (cost, liability) = match plan.method {
             Method::AB => {
-                let year = if x < r { b(x + 1) - b(x) } else { 0 };
-                (share(year, g(x), S), share(b(x), g(x), S))
+                let earned = b(x);
+                let year = if x < r { b(x + 1) - earned } else { 0 };
+                (share(year, g(x), S), share(earned, g(x), S))
             }
             Method::BD => (share(value, 1, r - y), share(value, x - y, r - y)),
             Method::BP => {
@@ -135,16 +135,16 @@ mod rust {
             Method::CD => {
                 let t = |e: u64| from_age(plan, rows, |_| S, e)[place(y)];
                 let all = t(r);
-                (share(b(r), g(y), all), share(value, t(x), all))
+                (share(benefit, g(y), all), share(value, t(x), all))
             }
             Method::CP => {
                 let z = |e: u64| from_age(plan, rows, |row| row[3] as u64 * S, e)[place(y)];
                 let all = z(r);
-                let pay = share(b(r), g(y), S) as u128 * weight(rows, x) as u128 * S as u128;
+                let pay = share(benefit, g(y), S) as u128 * weight(rows, x) as u128 * S as u128;
                 (nearest(pay, all as u128) as u64, share(value, z(x), all))
             }
         };
-        Figures { benefit: b(r), value, cost: if x < r { cost } else { 0 }, liability }
+        Figures { benefit, value, cost: if x < r { cost } else { 0 }, liability }
     }
 
     /// value * part / whole, rounded.
@@ -398,7 +398,6 @@ fn main() {
     accepting.iter().for_each(|case| case.print(&accepting[0]));
     println!("Python's oracle  members        µs   times Rattle's");
     valuing[1..5].iter().for_each(scale);
-    println!("what differs: Rattle works T(y,r) or Z(y,r) twice a member by CD or CP, and M by BP, works V");
-    println!("anew for N and L, passes rows by value, passes over the first 114 lines again, and clears and copies arrays");
+    println!("what differs: Rattle passes rows by value, passes over the first 114 lines again, and clears and copies arrays");
     check(&valuing);
 }

@@ -9,11 +9,10 @@ use lib.Dec.{ltb}
 use borrow.Author.Tests.{ltb-true}
 use Rattle.rounding.specs.Nearest.{nearest}
 use Rattle.rounding.proofs.NearestLaws.{nearest-below, nearest-above, nearest-exact, nearest-mono, nearest-shrinks, nearest-le}
-use Rattle.annuity.specs.Basis.{Basis, Fair, weight}
+use Rattle.annuity.specs.Basis.{Basis, weight}
 use Rattle.annuity.specs.Factors.{S, step, G, T, Z}
 use Rattle.annuity.proofs.Equations.{G-below, Z-below}
-use Rattle.annuity.proofs.Bases.{basis-fair}
-use Rattle.annuity.proofs.Sizes.{G-most, T-least, T-longer, Z-least, Z-longer}
+use Rattle.annuity.proofs.Sizes.{T-least, Z-least}
 use Rattle.plan.specs.declared.Plan.{Plan}
 use Rattle.plan.specs.declared.Member.{Member}
 use Rattle.plan.specs.declared.Method.{Method}
@@ -24,8 +23,10 @@ use Rattle.plan.proofs.Facts.{PlanFacts}
 use Rattle.costs.specs.declared.Figures.{Figures}
 use Rattle.costs.specs.Costs.{PV, cost, N, L}
 use Rattle.costs.specs.Valuation.{methodOf, planBasis, caseOf, figuresAt, figures}
+use Rattle.costs.specs.Parts.{earned, divisor}
 use Rattle.costs.proofs.Limits.{B-most}
-use Rattle.costs.proofs.Needs.{worth-most, facts, sound, past-among, years-some, weights-some, weight-among}
+use Rattle.costs.proofs.Needs.{worth-most, facts, sound, G-small, pay-least}
+use Rattle.costs.proofs.PartLaws.{divided, earned-most, adds-most}
 
 -- ---- the pay annuity covers the pension's
 -- a year keeps it: what is paid at its start outweighs the two roundings
@@ -75,53 +76,42 @@ module _ (p : Plan) (rows : List (List ℕ)) (m : Member) (accepted : AcceptedMe
   f : PlanFacts p rows
   f = facts p rows m accepted
 
-  fair : Fair b
-  fair = basis-fair rows r (p .interest)
-
   enters : y < r
   enters = accepted .placed .enters
 
-  -- the pay annuity pays 1000 at least
-  pay-least : 1000 * S ≤ Z b y r
-  pay-least =
-      omega (arith, Z-least b y r enters, mul-le-mul-right S (f .least y (accepted .placed .grown) (omega (arith, enters, f .head .retire .1))))
-
-  G-small : (k : ℕ) → G b k ≤ 71 * S
-  G-small k =
-      omega (arith, G-most b fair k (omega (arith, f .head .retire .1)), mul-le-mul-right {m = 121 - p .retire} {n = 71} S (omega (arith, f .head .retire .0)))
-
   value-small : (k : ℕ) → PV (caseOf p rows m) k ≤ 7100000000
   unfolding PV
-  value-small k = omega (arith, worth-most (B p rows m (p .retire)) (G b k) (G-small k), accepted .capped)
+  value-small k = omega (arith, worth-most (B p rows m (p .retire)) (G b k) (G-small p rows m accepted k), accepted .capped)
+
+  -- a share of V is no more
+  past-small : (method : Method) (k : ℕ) → m .entry ≤ k → k ≤ p .retire → nearest (PV (caseOf p rows m) k * earned (caseOf p rows m) k method) (divisor (caseOf p rows m) method) ≤ 7100000000
+  past-small method k from to =
+      le-trans (nearest-shrinks (PV (caseOf p rows m) k) _ _ (divided p rows m accepted method) (earned-most p rows m accepted method k from to)) (value-small k)
 
   liability-small : (method : Method) (k : ℕ) → m .entry ≤ k → k ≤ p .retire → L (caseOf p rows m) method k ≤ 7100000000
   unfolding L
   liability-small AB k from to =
-      omega (arith, worth-most (B p rows m k) (G b k) (G-small k), B-most (caseOf p rows m) (sound p rows m accepted) k from to)
-  liability-small BD k from to =
-      le-trans (nearest-shrinks (PV (caseOf p rows m) k) (k - m .entry) (p .retire - m .entry) (years-some p rows m accepted) (omega arith)) (value-small k)
-  liability-small BP k from to =
-      le-trans (nearest-shrinks (PV (caseOf p rows m) k) _ _ (weights-some p rows m accepted) (past-among p rows m accepted k from to)) (value-small k)
-  liability-small CD k from to =
-      le-trans (nearest-shrinks (PV (caseOf p rows m) k) (T b y k) (T b y r) (omega (arith, T-least b y r enters)) (T-longer b fair y k r from to)) (value-small k)
-  liability-small CP k from to =
-      le-trans (nearest-shrinks (PV (caseOf p rows m) k) (Z b y k) (Z b y r) (omega (arith, pay-least)) (Z-longer b fair y k r from to)) (value-small k)
+      omega (arith, worth-most (B p rows m k) (G b k) (G-small p rows m accepted k), B-most (caseOf p rows m) (sound p rows m accepted) k from to)
+  liability-small BD k from to = past-small BD k from to
+  liability-small BP k from to = past-small BP k from to
+  liability-small CD k from to = past-small CD k from to
+  liability-small CP k from to = past-small CP k from to
 
   cost-small : (method : Method) (k : ℕ) → m .entry ≤ k → k < p .retire → cost (caseOf p rows m) method k ≤ 7100000050
   unfolding cost PV
   cost-small AB k from to =
-      omega (arith, worth-most (B p rows m (k + 1) - B p rows m k) (G b k) (G-small k), B-most (caseOf p rows m) (sound p rows m accepted) (k + 1) (omega arith) (omega arith))
-  cost-small BD k from to = omega (arith, nearest-le (PV (caseOf p rows m) k) (r - y) (years-some p rows m accepted), value-small k)
+      omega (arith, worth-most (B p rows m (k + 1) - B p rows m k) (G b k) (G-small p rows m accepted k), B-most (caseOf p rows m) (sound p rows m accepted) (k + 1) (omega arith) (omega arith))
+  cost-small BD k from to = omega (arith, nearest-le (PV (caseOf p rows m) k) (r - y) (divided p rows m accepted BD), value-small k)
   cost-small BP k from to =
-      omega (arith, nearest-shrinks (PV (caseOf p rows m) k) _ _ (weights-some p rows m accepted) (weight-among p rows m accepted k from to), value-small k)
+      omega (arith, nearest-shrinks (PV (caseOf p rows m) k) _ _ (divided p rows m accepted BP) (adds-most p rows m accepted BP k from to), value-small k)
   cost-small CD k from to =
       let top = B p rows m r in
-      let some : 0 < T b y r = omega (arith, T-least b y r enters) in
-      omega (arith, nearest-mono (top * G b y) (top * 71 * S) (T b y r) some (omega (arith, mul-le-mul {n₁ = top} {n₂ = top} (omega arith) (G-small y))), nearest-shrinks (top * 71) S (T b y r) some (T-least b y r enters), accepted .capped)
+      let some = divided p rows m accepted CD in
+      omega (arith, nearest-mono (top * G b y) (top * 71 * S) (T b y r) some (omega (arith, mul-le-mul {n₁ = top} {n₂ = top} (omega arith) (G-small p rows m accepted y))), nearest-shrinks (top * 71) S (T b y r) some (T-least b y r enters), accepted .capped)
   cost-small CP k from to =
       let heavy = f .table k (omega (arith, accepted .placed .grown)) (omega (arith, f .head .retire .1)) .weight in
       let weighty = sound p rows m accepted .weighty in
-      omega (arith, percent-small (B p rows m r) (G b y) (weight rows k) (Z b y r) (covers b y k to heavy weighty (G-small k) (k - y) y (omega arith) (omega arith)) heavy pay-least, accepted .capped)
+      omega (arith, percent-small (B p rows m r) (G b y) (weight rows k) (Z b y r) (covers b y k to heavy weighty (G-small p rows m accepted k) (k - y) y (omega arith) (omega arith)) heavy (pay-least p rows m accepted), accepted .capped)
 
   pub figures-small : Small (figures p rows m)
   unfolding figures figuresAt N

@@ -1,8 +1,9 @@
--- Demand 3, roll-forward and the equal forms of the liability (RollForward, EqualForms), and the limits (Quotients, Limits).
+-- Demand 3, roll-forward and the equal forms of the liability (RollForward, EqualForms), and the limits (Quotients, Limits); and the figures from their parts (PartLaws).
 pub mod RollForward
 pub mod EqualForms
 pub mod Quotients
 pub mod Limits
 pub mod Needs
 pub mod Answers
+pub mod PartLaws
 pub mod FigureSizes

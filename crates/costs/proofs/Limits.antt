@@ -21,6 +21,7 @@ use Rattle.plan.specs.Weights.{summed}
 use Rattle.plan.proofs.WeightLaws.{summed-split}
 use Rattle.costs.specs.Costs.{r, W, M, PV, PV*, cost, cost*, N, N*, L, L*}
 use Rattle.costs.specs.Demand3.{V-limit, N-limit, L-limit, Sharp-Limits, N-most, Limits}
+use Rattle.costs.proofs.RollForward.{M-positive}
 use Rattle.costs.proofs.Quotients.{close-refl, Divisor, Share, exact, exact-part, over-divisor, near-part, Factor, strays, product}
 
 -- ---- the limits in numbers
@@ -89,11 +90,14 @@ module _ (c : Case) (sound : Sound c) where
   open Case c using (basis, B, y)
   open Sound sound using (fair, enters, weighty, climbs, capped, rises)
 
-  -- no benefit is above the last, and no weight below the first
+  -- no benefit is above a later one, and no weight below the first
+  pub B-rises : {k j : ℕ} → y ≤ k → k ≤ j → j ≤ r c → B k ≤ B j
+  B-rises {k} {j} yk kj jr =
+      let end : k + (j - k) ≡ j = omega arith in
+      rw end at (climb B k (j - k) (λ i from to. rises i (omega arith) (omega arith)))
+
   B-last : (k : ℕ) → y ≤ k → k ≤ r c → B k ≤ B (r c)
-  B-last k yk kr =
-      let end : k + (r c - k) ≡ r c = omega arith in
-      rw end at (climb B k (r c - k) (λ j from to. rises j (omega arith) (omega arith)))
+  B-last k yk kr = B-rises yk kr (le-refl (r c))
 
   pub B-most : (k : ℕ) → y ≤ k → k ≤ r c → B k ≤ 100000000
   B-most k yk kr = omega (arith, capped, B-last k yk kr)
@@ -106,19 +110,16 @@ module _ (c : Case) (sound : Sound c) where
   W-some : 1000 ≤ W c y
   W-some = weighty y (le-refl y) enters
 
-  M-split : (k : ℕ) → y ≤ k → k ≤ r c → M c ≡ summed (W c) y (k - y) + summed (W c) k (r c - k)
+  pub M-split : (k : ℕ) → y ≤ k → k ≤ r c → M c ≡ summed (W c) y (k - y) + summed (W c) k (r c - k)
   M-split k yk kr =
       let years : r c - y ≡ k - y + (r c - k) = omega arith in
       let there : y + (k - y) ≡ k = omega arith in
       rw years (rw there at (summed-split (W c) y (k - y) (r c - k)))
 
-  W-most : (k : ℕ) → y ≤ k → k < r c → W c k ≤ M c
+  pub W-most : (k : ℕ) → y ≤ k → k < r c → W c k ≤ M c
   unfolding summed
   W-most k yk kr =
       let years : r c - k ≡ suc (r c - k - 1) = omega arith in omega (arith, rw years at (M-split k yk (omega arith)))
-
-  M-above : 0 < M c
-  M-above = omega (arith, W-some, W-most y (le-refl y) enters)
 
   -- ---- G, and a benefit times G
   G-most : (k : ℕ) → G* basis k ≼ G-top
@@ -193,7 +194,7 @@ module _ (c : Case) (sound : Sound c) where
       rw (mul-one, ⊗-one) at
       (product (PV-factor k yk (omega arith)) (exact-part 1 (r c - y) (omega arith) (omega arith)) (numbers (B (r c)) .exact-share))
   cost-within BP k yk kr =
-      product (PV-factor k yk (omega arith)) (exact-part (W c k) (M c) M-above (W-most k yk kr)) (numbers (B (r c)) .exact-share)
+      product (PV-factor k yk (omega arith)) (exact-part (W c k) (M c) (M-positive c sound) (W-most k yk kr)) (numbers (B (r c)) .exact-share)
   cost-within CD k yk kr =
       benefit y (le-refl y) (omega arith)
       (over-divisor (B (r c)) T-divisor (share-of (B (r c)) (B (r c)) (T basis y (r c)) (le-refl (B (r c))) (T-least basis y (r c) enters)))
@@ -209,7 +210,7 @@ module _ (c : Case) (sound : Sound c) where
   L-within BD k yk kr =
       product (PV-factor k yk kr) (exact-part (k - y) (r c - y) (omega arith) (omega arith)) (numbers (B (r c)) .exact-share)
   L-within BP k yk kr =
-      product (PV-factor k yk kr) (exact-part (summed (W c) y (k - y)) (M c) M-above (omega (arith, M-split k yk kr)))
+      product (PV-factor k yk kr) (exact-part (summed (W c) y (k - y)) (M c) (M-positive c sound) (omega (arith, M-split k yk kr)))
       (numbers (B (r c)) .exact-share)
   L-within CD k yk kr =
       product (PV-factor k yk kr)

@@ -6,15 +6,13 @@ use Prim.Native.Nat.{ℕ, _≤_}
 use lib.Dec.{eqb}
 use Rattle.fractions.specs.Ratio.{_over_}
 use Rattle.annuity.specs.Basis.{Basis, basis}
-use Rattle.annuity.specs.Factors.{G}
-use Rattle.annuity.specs.Filled.{Filled}
 use Rattle.annuity.specs.Accuracy.{Within}
 use Rattle.plan.specs.declared.Plan.{Plan}
 use Rattle.plan.specs.declared.Member.{Member}
 use Rattle.plan.specs.declared.Method.{Method}
 use Rattle.plan.specs.declared.Method.the-variants.{AB, BD, BP, CD, CP}
 use Rattle.plan.specs.Benefit.{B}
-use Rattle.plan.specs.Acceptance.{planRefusal, memberRefusal, loneRefusal, Accrued, AcceptedMember}
+use Rattle.plan.specs.Acceptance.{planRefusal, memberRefusal, loneRefusal}
 use Rattle.costs.specs.declared.Figures.{Figures}
 use Rattle.costs.specs.declared.Valuation.{Valuation}
 use Rattle.costs.specs.declared.Valuation.the-variants.{Valued, Refused}
@@ -54,12 +52,6 @@ module _ (p : Plan) (rows : List (List ℕ)) (m : Member) where
       Within (N-most caseOf (methodOf (p .method)) (m .age)) (f .cost) (N* caseOf (methodOf (p .method)) (m .age))
       × Within (15 over 1) (f .liability) (L* caseOf (methodOf (p .method)) (m .age))
   Limited (Refused number line) = Unit {0}
-
--- an accepted member with its benefits B(k) and the plan's factors G(k), each in its array
-pub record Ready (p : Plan) (rows : List (List ℕ)) (m : Member) (benefits deferred : List ℕ) : Type 0 where
-  pub accepted : AcceptedMember p rows m
-  pub accrued : Accrued p rows m benefits
-  pub filled : Filled (G (planBasis p rows)) (p .retire) 15 deferred
 
 -- ---- demand 3, of every member that the rules accept: whatever the id before it, each age of its own, each of the five methods
 pub record Accepted (p : Plan) (rows : List (List ℕ)) (before : ℕ) (m : Member) : Type 0 where

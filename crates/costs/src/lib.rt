@@ -1,21 +1,19 @@
 // Present value, normal cost and liability of a member by the five cost methods, and demand 3 entire: RULES sections 9
 // and 10. specs/Costs.antt has the figures, rounded and exact, in the rules' letters; specs/Demand3.antt the two
 // statements about them, the equal forms of the liability and the limits; specs/Valuation.antt the answer for plain
-// values. cost.rt works N, liability.rt L, method by method, and parts.rt what they share. `value_member` is the entry:
-// it has no `requires`, and its contract is the figures' equation and the limits on its N and L.
-mod cost;
-mod liability;
+// values; specs/Parts.antt the numbers that the methods need of a member, and that they give its figures. plain.rt works
+// these numbers, and parts.rt the figures from them. `value_member` is the entry: it has no `requires`, and its contract
+// is the figures' equation and the limits on its N and L.
 mod parts;
+mod plain;
 
 use plan::Member;
 use plan::Method;
 use plan::Plan;
 use plan::acceptance::lone_refusal;
-use plan::benefit::accrued_benefits;
 ghost use mathlib.Core.Path.{_≡_};
-ghost use Prim.Native.Nat.{_≤_};
-ghost use Rattle.plan.specs.Acceptance.{AcceptedMember, Accrued};
-ghost use Rattle.costs.specs.Valuation.{Ready, methodOf, figuresAt, figures, valuation, Limited};
+ghost use Rattle.plan.specs.Acceptance.{AcceptedMember};
+ghost use Rattle.costs.specs.Valuation.{methodOf, figures, valuation, Limited};
 
 // The benefit B(r), its present value V, the normal cost N and the liability L, in cents.
 pub struct Figures {
@@ -48,49 +46,9 @@ pub fn figures_of(p: Plan, rows: [[u32; 4]; 106], m: Member) -> Figures
     requires { ⌜ AcceptedMember p rows m ⌝ }
     ensures { λ f. ⌜ f ≡ figures p rows m ⌝ }
 {
-    let benefits = accrued_benefits(p, rows, m);
-    figures_at(p, rows, m, benefits, method_of(p.method), m.age as usize)
-}
-
-// Rule 9.9: the figures of an accepted member at any age of its own, by any method.
-fn figures_at(
-    p: Plan,
-    rows: [[u32; 4]; 106],
-    m: Member,
-    benefits: [u64; 106],
-    method: Method,
-    k: usize,
-) -> Figures
-    requires { ⌜ AcceptedMember p rows m × Accrued p rows m benefits × (m .entry ≤ k) × (k ≤ p .retire) ⌝ }
-    ensures { λ f. ⌜ f ≡ figuresAt p rows m method k ⌝ }
-{
-    let deferred = annuity::deferred_annuity(rows, p.retire as usize, p.interest);
-    figures_by(p, &rows, m, &benefits, &deferred, method, k)
-}
-
-// The same from the plan's factors.
-fn figures_by(
-    p: Plan,
-    rows: &[[u32; 4]; 106],
-    m: Member,
-    benefits: &[u64; 106],
-    deferred: &[u64; 106],
-    method: Method,
-    k: usize,
-) -> Figures
-    requires { ⌜ Ready p (now rows) m (now benefits) (now deferred) × (m .entry ≤ k) × (k ≤ p .retire) ⌝ }
-    ensures { λ f. ⌜ f ≡ figuresAt p (now (rows .entry)) m method k ⌝ }
-{
-    let benefit = parts::of_age(benefits, p.retire as usize);
-    let value = parts::present_value(p, rows, m, benefits, deferred, k);
-    let cost = cost::normal_cost(p, rows, m, benefits, deferred, method, k);
-    let liability = liability::liability(p, rows, m, benefits, deferred, method, k);
-    Figures {
-        benefit,
-        value,
-        cost,
-        liability,
-    }
+    let method = method_of(p.method);
+    let parts = plain::parts_at(p, &rows, m, method, m.age as usize);
+    parts::figures_from(parts, method)
 }
 
 fn method_of(code: u64) -> Method

@@ -1,69 +1,80 @@
-// What the methods share: a benefit's worth, a share of a value, and the two annuities from entry.
-use plan::Member;
-use plan::Plan;
+// The parts of a member's figures at one age, and the figures that they give by any method: RULES section 9. An engine
+// works the parts (plain.rt); here nothing is known of a plan, a table or an age.
+use crate::Figures;
+use plan::Method;
 ghost use mathlib.Core.Path.{_≡_};
-ghost use Prim.Native.Nat.{_-_, _*_, _≤_, _<_};
-ghost use lib.ListN.{getD};
+ghost use Prim.Native.Nat.{_*_, _≤_, _<_};
 ghost use Rattle.rounding.specs.Nearest.{nearest};
-ghost use Rattle.annuity.specs.Factors.{S, T, Z};
-ghost use Rattle.plan.specs.Acceptance.{AcceptedMember};
-ghost use Rattle.costs.specs.Valuation.{Ready, caseOf, planBasis};
-ghost use Rattle.costs.specs.Costs.{PV};
+ghost use Rattle.annuity.specs.Factors.{S};
+ghost use Rattle.costs.specs.Parts.{Fits, valueFrom, costFactor, liabilityFactor, figuresFrom};
 
-// What an array of the ages holds for age k.
-pub(crate) fn of_age(a: &[u64; 106], k: usize) -> u64
-    requires { ⌜ (15 ≤ k) × (k ≤ 120) ⌝ }
-    ensures { λ r. ⌜ r ≡ getD (now (a .entry)) (k - 15) 0 ⌝ }
+// B(r), G(x) and G(y); then, by the method's own measure, what is earned up to x, what the year from x on adds, and what
+// both are divided by.
+pub struct Parts {
+    pub benefit: u64,
+    pub deferred: u64,
+    pub entered: u64,
+    pub earned: u64,
+    pub added: u64,
+    pub divisor: u64,
+}
+
+// Rules 9.1 to 9.8: the figures that the parts give.
+pub fn figures_from(q: Parts, method: Method) -> Figures
+    requires { ⌜ Fits q ⌝ }
+    ensures { λ f. ⌜ f ≡ figuresFrom q method ⌝ }
 {
-    a[k - 15]
+    let value = worth(q.benefit, q.deferred);
+    let cost = share(cost_factor(q, method, value), q.added, q.divisor);
+    let liability = share(liability_factor(q, method, value), q.earned, q.divisor);
+    Figures {
+        benefit: q.benefit,
+        value,
+        cost,
+        liability,
+    }
+}
+
+// What N has beside what is added. Both products fit a word: a benefit is 10^8 at most, and a factor 71 S.
+fn cost_factor(q: Parts, method: Method, value: u64) -> u64
+    requires { ⌜ Fits q × (value ≡ valueFrom q) ⌝ }
+    ensures { λ r. ⌜ r ≡ costFactor q method ⌝ }
+{
+    match method {
+        Method::AB => q.deferred,
+        Method::BD => value,
+        Method::BP => value,
+        Method::CD => q.benefit * q.entered,
+        Method::CP => worth(q.benefit, q.entered) * annuity::S,
+    }
+}
+
+// What L has beside what is earned.
+fn liability_factor(q: Parts, method: Method, value: u64) -> u64
+    requires { ⌜ value ≡ valueFrom q ⌝ }
+    ensures { λ r. ⌜ r ≡ liabilityFactor q method ⌝ }
+{
+    match method {
+        Method::AB => q.deferred,
+        Method::BD => value,
+        Method::BP => value,
+        Method::CD => value,
+        Method::CP => value,
+    }
 }
 
 // benefit * deferred / S: what a benefit from r on is worth at the age of the factor.
-pub(crate) fn worth(benefit: u64, deferred: u64) -> u64
+fn worth(benefit: u64, deferred: u64) -> u64
     requires { ⌜ (benefit ≤ 100000000) × (deferred ≤ 71 * S) ⌝ }
-    ensures { λ r. ⌜ r ≡ nearest (benefit * deferred) S ⌝ }
+    ensures { λ r. ⌜ (r ≡ nearest (benefit * deferred) S) × (r ≤ 7100000000) ⌝ }
 {
     rounding::mul_div_nearest(benefit, deferred, annuity::S)
 }
 
-// value * part / whole.
-pub(crate) fn share(value: u64, part: u64, whole: u64) -> u64
+// factor * part / whole.
+fn share(factor: u64, part: u64, whole: u64) -> u64
     requires { ⌜ (0 < whole) × (part ≤ whole) ⌝ }
-    ensures { λ r. ⌜ r ≡ nearest (value * part) whole ⌝ }
+    ensures { λ r. ⌜ r ≡ nearest (factor * part) whole ⌝ }
 {
-    rounding::mul_div_nearest(value, part, whole)
-}
-
-// Rule 9.1: V(k).
-pub(crate) fn present_value(
-    p: Plan,
-    rows: &[[u32; 4]; 106],
-    m: Member,
-    benefits: &[u64; 106],
-    deferred: &[u64; 106],
-    k: usize,
-) -> u64
-    requires { ⌜ Ready p (now rows) m (now benefits) (now deferred) × (m .entry ≤ k) × (k ≤ p .retire) ⌝ }
-    ensures { λ r. ⌜ r ≡ PV (caseOf p (now (rows .entry)) m) k ⌝ }
-{
-    let benefit = of_age(benefits, p.retire as usize);
-    worth(benefit, of_age(deferred, k))
-}
-
-// T(y,e), for an age e of the member.
-pub(crate) fn working_from_entry(p: Plan, rows: &[[u32; 4]; 106], m: Member, e: usize) -> u64
-    requires { ⌜ AcceptedMember p (now rows) m × (m .entry ≤ e) × (e ≤ p .retire) ⌝ }
-    ensures { λ r. ⌜ r ≡ T (planBasis p (now (rows .entry))) (m .entry) e ⌝ }
-{
-    let annuity = annuity::working_annuity(*rows, p.retire as usize, p.interest, e);
-    of_age(&annuity, m.entry as usize)
-}
-
-// Z(y,e), for an age e of the member.
-pub(crate) fn pay_from_entry(p: Plan, rows: &[[u32; 4]; 106], m: Member, e: usize) -> u64
-    requires { ⌜ AcceptedMember p (now rows) m × (m .entry ≤ e) × (e ≤ p .retire) ⌝ }
-    ensures { λ r. ⌜ r ≡ Z (planBasis p (now (rows .entry))) (m .entry) e ⌝ }
-{
-    let annuity = annuity::pay_annuity(*rows, p.retire as usize, p.interest, e);
-    of_age(&annuity, m.entry as usize)
+    rounding::mul_div_nearest(factor, part, whole)
 }

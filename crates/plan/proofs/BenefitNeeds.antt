@@ -1,13 +1,12 @@
 -- What the benefit's code needs: the sums of an accepted plan's weights, and that no product passes 64 bits.
-use mathlib.Core.Path.{_≡_, refl, sym, ap, _∙_}
+use mathlib.Core.Path.{_≡_, refl}
 use mathlib.Core.List.{List}
 use mathlib.Core.Bool.{Bool, true, false}
 use borrow.Author.Tests.{leb-true, leb-false}
 use lib.Dec.{leb}
-use Prim.Native.Nat.{ℕ, _+_, _-_, _*_, _≤_, _<_, min}
+use Prim.Native.Nat.{ℕ, _-_, _*_, _≤_, _<_, min}
 use native.Mathlib.Nat.{le-refl, mul-le-mul, min-le-left, min-le-right, min-eq-left, min-eq-right, le-of-lt}
 use native.Mathlib.Omega.{arith}
-use lib.ListN.{getD}
 use Rattle.annuity.specs.Basis.{weight, Table}
 use Rattle.plan.specs.declared.Plan.{Plan}
 use Rattle.plan.specs.declared.Member.{Member}
@@ -15,8 +14,8 @@ use Rattle.plan.specs.declared.Formula.{Formula}
 use Rattle.plan.specs.declared.Formula.the-variants.{Flat, Career, Final}
 use Rattle.plan.specs.Weights.{summed, firstPaid}
 use Rattle.plan.specs.Benefit.{formulaOf}
-use Rattle.plan.specs.Acceptance.{planRefusal, Placed, Sums}
-use Rattle.plan.proofs.WeightLaws.{summed-from, summed-most}
+use Rattle.plan.specs.Acceptance.{planRefusal, Placed}
+use Rattle.plan.proofs.WeightLaws.{summed-most}
 use Rattle.plan.proofs.Facts.{PlanFacts, plan-facts}
 
 -- ---- products that fit a word
@@ -43,20 +42,6 @@ last-ages average years low high some =
 module _ (rows : List (List ℕ)) (a b : ℕ) (low : 15 ≤ a) (le : a ≤ b) (high : b ≤ 120) where
   pub weights-most : Table rows → summed (weight rows) a (b - a) ≤ (b - a) * 100000
   weights-most table = summed-most (weight rows) 100000 a (b - a) (λ j from to. table j (omega arith) (omega arith) .weight)
-
-  -- as differences of two sums from 15 on
-  module _ (sums : List ℕ) (held : Sums rows sums) where
-    sum-is : getD sums (b - 15) 0 ≡ getD sums (a - 15) 0 + summed (weight rows) a (b - a)
-    sum-is =
-        held .each b (omega arith) high
-        ∙ summed-from (weight rows) a b low le
-        ∙ ap (λ (x : ℕ). x + summed (weight rows) a (b - a)) (sym (held .each a low (omega arith)))
-
-    pub sums-rise : getD sums (a - 15) 0 ≤ getD sums (b - 15) 0
-    sums-rise = omega (arith, sum-is)
-
-    pub sums-differ : getD sums (b - 15) 0 - getD sums (a - 15) 0 ≡ summed (weight rows) a (b - a)
-    sums-differ = omega (arith, sum-is)
 
 -- ---- the ages whose pay a benefit rests on
 first-paid-among : (f : Formula) (average entry k : ℕ) → entry ≤ k → (entry ≤ firstPaid f average entry k) × (firstPaid f average entry k ≤ k)

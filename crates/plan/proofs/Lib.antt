@@ -1,6 +1,5 @@
 -- The laws of the rules and of the benefit.
 pub mod RuleLaws
-pub mod Upward
 pub mod WeightLaws
 pub mod BenefitLaws
 pub mod Facts

@@ -1,5 +1,5 @@
 -- The laws of summed weights.
-use mathlib.Core.Path.{_≡_, _∙_}
+use mathlib.Core.Path.{_≡_}
 use Prim.Native.Nat.{ℕ, zero, suc, _+_, _-_, _*_, _≤_, _<_}
 use native.Mathlib.Omega.{arith}
 use Rattle.plan.specs.Weights.{summed}
@@ -21,13 +21,6 @@ module _ (W : ℕ → ℕ) where
   pub summed-more : (k n : ℕ) → summed W k (n + 1) ≡ summed W k n + W (k + n)
   unfolding summed
   summed-more k n = omega (arith, summed-split k n 1)
-
-  -- from one age to another: a difference of sums from 15 on
-  pub summed-from : (a b : ℕ) → 15 ≤ a → a ≤ b → summed W 15 (b - 15) ≡ summed W 15 (a - 15) + summed W a (b - a)
-  summed-from a b low le =
-      let years : b - 15 ≡ a - 15 + (b - a) = omega arith in
-      let there : 15 + (a - 15) ≡ a = omega arith in
-      rw years (summed-split 15 (a - 15) (b - a) ∙ rw there)
 
   -- n weights of w at most
   pub summed-most : (w k n : ℕ) → ((j : ℕ) → k ≤ j → j < k + n → W j ≤ w) → summed W k n ≤ n * w

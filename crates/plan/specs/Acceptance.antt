@@ -3,7 +3,7 @@ use mathlib.Core.Bool.{true, cond, _&&_}
 use mathlib.Core.List.{List, [], _∷_, _++_}
 use Prim.Native.Nat.{ℕ, zero, suc, _-_, _≤_, _<_}
 use mathlib.Core.Path.{_≡_}
-use lib.ListN.{length, getD}
+use lib.ListN.{getD}
 use lib.Dec.{leb, ltb, eqb}
 use Rattle.annuity.specs.Basis.{row, weight}
 use Rattle.plan.specs.declared.Plan.{Plan}
@@ -13,7 +13,6 @@ use Rattle.plan.specs.declared.acceptance.Acceptance.{Acceptance}
 use Rattle.plan.specs.declared.acceptance.Acceptance.the-variants.{Accepted, Refused}
 use Rattle.plan.specs.Refusals.{planForm, outOfRange, wrongAverage, wrongLastDeath, wrongWeight, wrongId, wrongEntry, wrongAge, wrongSalary, highBenefit}
 use Rattle.plan.specs.Rules.{unless, firstOf, between}
-use Rattle.plan.specs.Weights.{summed}
 use Rattle.plan.specs.Benefit.{B}
 
 -- ---- the heading, RULES section 2
@@ -158,16 +157,6 @@ pub record Placed (p : Plan) (m : Member) : Type 0 where
   pub paid : m .salary ≤ 100000000
 
 -- ---- what is handed on
--- the benefits that an array holds: B(k) for each age from entry to retirement. The places of other ages are left open
-pub record Accrued (p : Plan) (rows : List (List ℕ)) (m : Member) (a : List ℕ) : Type 0 where
-  pub size : length a ≡ 106
-  pub each : (k : ℕ) → m .entry ≤ k → k ≤ p .retire → getD a (k - 15) 0 ≡ B p rows m k
-
--- the weights of the ages before each age, summed from 15 on, that an array holds
-pub record Sums (rows : List (List ℕ)) (a : List ℕ) : Type 0 where
-  pub size : length a ≡ 106
-  pub each : (k : ℕ) → 15 ≤ k → k ≤ 120 → getD a (k - 15) 0 ≡ summed (weight rows) 15 (k - 15)
-
 -- a member of an accepted plan that keeps rules 4.3 to 4.5 and 7.8; its id plays no part in the figures
 pub record AcceptedMember (p : Plan) (rows : List (List ℕ)) (m : Member) : Type 0 where
   pub plan : planRefusal p rows ≡ 0

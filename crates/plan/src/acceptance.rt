@@ -1,7 +1,7 @@
 // Accepting, rule 5.3: the rules in the order of the lines. A refusal is its number, and 0 is none.
 use crate::Member;
 use crate::Plan;
-use crate::benefit::retirement_benefit;
+use crate::benefit::accrued_benefit;
 use crate::rules::assets_rule;
 use crate::rules::average_rule;
 use crate::rules::between;
@@ -72,7 +72,7 @@ pub fn member_refusal(p: Plan, rows: &[[u32; 4]; 106], before: u64, m: Member) -
     if fields != 0 {
         return fields;
     }
-    let top = retirement_benefit(p, rows, m);
+    let top = accrued_benefit(p, rows, m, p.retire);
     or_else(unless(top <= 100_000_000, 25), 0)
 }
 

@@ -1,31 +1,15 @@
-// Pay and benefit, RULES section 7: B(k) for each age of a member, from exact pay, rounded once to the cent.
+// Pay and benefit, RULES section 7: B(k) at an age of a member, from exact pay, rounded once to the cent.
 use crate::Formula;
 use crate::Member;
 use crate::Plan;
 use crate::rules::wide;
 ghost use mathlib.Core.Path.{_≡_};
 ghost use Prim.Native.Nat.{_-_, _*_, _≤_, _<_, min};
-ghost use lib.ListN.{getD};
 ghost use Rattle.rounding.specs.Nearest.{nearest};
 ghost use Rattle.annuity.specs.Basis.{Table, weight};
 ghost use Rattle.plan.specs.Weights.{summed, firstPaid};
 ghost use Rattle.plan.specs.Benefit.{formulaOf, B};
-ghost use Rattle.plan.specs.Acceptance.{planRefusal, Placed, Accrued, Sums};
-
-// The weights of the ages before each age, summed from 15 on.
-fn summed_weights(rows: [[u32; 4]; 106]) -> [u64; 106]
-    requires { ⌜ Table rows ⌝ }
-    ensures { λ a. ⌜ Sums rows a ⌝ }
-{
-    let mut sums = [0u64; 106];
-    let mut j: usize = 0;
-    while j < 105 {
-        let row = rows[j];
-        sums[j + 1] = sums[j] + wide(row[3]);
-        j += 1;
-    }
-    sums
-}
+ghost use Rattle.plan.specs.Acceptance.{planRefusal, Placed};
 
 fn formula_of(code: u64) -> Formula
     ensures { λ f. ⌜ f ≡ formulaOf code ⌝ }
@@ -60,14 +44,6 @@ fn final_average(unit: u64, years: u64, salary: u64, weights: u64, n: u64, now: 
     ensures { λ r. ⌜ r ≡ nearest (unit * years * (salary * weights)) (10000 * (n * now)) ⌝ }
 {
     rounding::div_nearest(unit * years * (salary * weights), 10_000 * (n * now))
-}
-
-// The weights of the ages from a to b - 1, from the sums.
-fn sum_between(sums: &[u64; 106], a: u64, b: u64) -> u64
-    requires { ⌜ (15 ≤ a) × (a ≤ 120) × (15 ≤ b) × (b ≤ 120) × (getD (now sums) (a - 15) 0 ≤ getD (now sums) (b - 15) 0) ⌝ }
-    ensures { λ r. ⌜ r ≡ getD (now (sums .entry)) (b - 15) 0 - getD (now (sums .entry)) (a - 15) 0 ⌝ }
-{
-    sums[b as usize - 15] - sums[a as usize - 15]
 }
 
 // The weights of the ages from a to b - 1, added up where they stand.
@@ -118,36 +94,11 @@ fn benefit(p: Plan, rows: &[[u32; 4]; 106], m: Member, k: u64, first: u64, weigh
     }
 }
 
-// B(r) alone.
-pub(crate) fn retirement_benefit(p: Plan, rows: &[[u32; 4]; 106], m: Member) -> u64
-    requires { ⌜ (planRefusal p (now rows) ≡ 0) × Placed p m ⌝ }
-    ensures { λ r. ⌜ r ≡ B p (now (rows .entry)) m (p .retire) ⌝ }
+// B(k), for an age k from entry to retirement.
+pub fn accrued_benefit(p: Plan, rows: &[[u32; 4]; 106], m: Member, k: u64) -> u64
+    requires { ⌜ (planRefusal p (now rows) ≡ 0) × Placed p m × (m .entry ≤ k) × (k ≤ p .retire) ⌝ }
+    ensures { λ r. ⌜ r ≡ B p (now (rows .entry)) m k ⌝ }
 {
-    let first = first_paid(formula_of(p.formula), p.average, m.entry, p.retire);
-    benefit(
-        p,
-        rows,
-        m,
-        p.retire,
-        first,
-        weights_between(rows, first, p.retire),
-    )
-}
-
-// B(k) for each age from entry to retirement.
-pub fn accrued_benefits(p: Plan, rows: [[u32; 4]; 106], m: Member) -> [u64; 106]
-    requires { ⌜ (planRefusal p rows ≡ 0) × Placed p m ⌝ }
-    ensures { λ a. ⌜ Accrued p rows m a ⌝ }
-{
-    let sums = summed_weights(rows);
-    let formula = formula_of(p.formula);
-    let retire = p.retire;
-    let mut benefits = [0u64; 106];
-    let mut k = m.entry;
-    while k <= retire {
-        let first = first_paid(formula, p.average, m.entry, k);
-        benefits[k as usize - 15] = benefit(p, &rows, m, k, first, sum_between(&sums, first, k));
-        k += 1;
-    }
-    benefits
+    let first = first_paid(formula_of(p.formula), p.average, m.entry, k);
+    benefit(p, rows, m, k, first, weights_between(rows, first, k))
 }

@@ -2,24 +2,29 @@
 use mathlib.Core.Path.{ap, _∙_}
 use Rattle.plan.specs.declared.Method.{Method}
 use Rattle.costs.specs.Valuation.{figuresAt, figures}
+use Rattle.costs.specs.Parts.{Gives}
+use Rattle.costs.proofs.PartLaws.{from-parts}
 use borrow.Author.Needs.{needs}
 use Rattle.costs.proofs.figures_of.Statement.{statement}
 use Rattle.costs.proofs.figures_of.Tie as tie
 
-accrued-benefits-requires : tie.Need-accrued-benefits-requires
-accrued-benefits-requires c κs = (c .pre .plan, c .pre .placed)
+law : (c : tie.After-method-of) → let a = c .before .args in Gives (a .p) (a .t2) (a .m) (c .method-of .result) (a .m .age)
+law c =
+    let s = c .before in
+    from-parts (s .args .p) (s .args .t2) (s .args .m) (s .pre) (c .method-of .result) (s .args .m .age) (s .pre .placed .past-entry) (s .pre .placed .not-past)
 
-method-of-requires : tie.Need-method-of-requires
-method-of-requires c κs = search needs
-
-figures-at-requires : tie.Need-figures-at-requires
-figures-at-requires c κs = search needs
+figures-from-requires : tie.Need-figures-from-requires
+figures-from-requires c κs = rw (c .parts-at .ensures) (law (c .before .before) .fits)
 
 returns : tie.Need-returns
 unfolding figures
 returns c =
-    let a = c .before .before .before .args in
-    c .figures-at .ensures ∙ ap (λ (method : Method). figuresAt (a .p) (a .rows) (a .m) method (a .m .age)) (c .before .method-of .ensures)
+    let told = c .before .before .before in
+    let a = told .before .args in
+    c .figures-from .ensures
+    ∙ rw (c .before .parts-at .ensures) (law told .figures)
+    ∙ ap (λ (method : Method). figuresAt (a .p) (a .t2) (a .m) method (a .m .age)) (told .method-of .ensures)
 
 pub figures-of-spec : {M : Type 1} → statement M
-figures-of-spec = tie.close (tie.spec accrued-benefits-requires method-of-requires figures-at-requires returns)
+figures-of-spec =
+    tie.close (tie.spec (λ c κs. search needs) (λ c κs. search needs) figures-from-requires returns)

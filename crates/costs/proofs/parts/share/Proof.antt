@@ -6,7 +6,7 @@ use Rattle.costs.proofs.parts.share.Statement.{statement}
 use Rattle.costs.proofs.parts.share.Tie as tie
 
 mul-div-nearest-requires : tie.Need-mul-div-nearest-requires
-mul-div-nearest-requires c κs = omega (arith, nearest-shrinks (c .args .value) (c .args .part) (c .args .whole) (c .pre .0) (c .pre .1))
+mul-div-nearest-requires c κs = omega (arith, nearest-shrinks (c .args .factor) (c .args .part) (c .args .whole) (c .pre .0) (c .pre .1))
 
 returns : tie.Need-returns
 returns c = search needs

@@ -1,7 +1,6 @@
 -- `costs::parts::worth` meets its contract.
 use native.Mathlib.Omega.{arith}
 use Rattle.costs.proofs.Needs.{worth-most}
-use borrow.Author.Needs.{needs}
 use Rattle.costs.proofs.parts.worth.Statement.{statement}
 use Rattle.costs.proofs.parts.worth.Tie as tie
 
@@ -9,7 +8,9 @@ mul-div-nearest-requires : tie.Need-mul-div-nearest-requires
 mul-div-nearest-requires c κs = omega (arith, worth-most (c .args .benefit) (c .args .deferred) (c .pre .1))
 
 returns : tie.Need-returns
-returns c = search needs
+returns c =
+    let s = c .before in
+    (c .mul-div-nearest .ensures, omega (arith, c .mul-div-nearest .ensures, worth-most (s .args .benefit) (s .args .deferred) (s .pre .1), s .pre .0))
 
 pub worth-spec : {M : Type 1} → statement M
 worth-spec = tie.close (tie.spec mul-div-nearest-requires returns)

@@ -1,6 +1,7 @@
 -- `plan::acceptance::member_refusal` meets its contract.
 use mathlib.Core.Path.{refl, sym, ap, _∙_}
 use Prim.Native.Nat.{ℕ}
+use native.Mathlib.Nat.{le-refl, le-of-lt}
 use lib.Dec.{leb}
 use Rattle.plan.specs.Rules.{unless}
 use Rattle.plan.specs.Acceptance.{benefitRules}
@@ -16,11 +17,12 @@ returns c =
     e ∙ sym (fields-refused (a .p) (a .rows .now) (a .before) (a .m) (λ z. c .if1 .taken (e ∙ z)))
 
 -- fields that are right place the member
-retirement-benefit-requires : tie.Need-retirement-benefit-requires
-retirement-benefit-requires c κs =
+accrued-benefit-requires : tie.Need-accrued-benefit-requires
+accrued-benefit-requires c κs =
     let s = c .before .before in
     let a = s .args in
-    (s .pre, placed-facts (a .p) (a .before) (a .m) (sym (c .before .fields-refusal .ensures) ∙ c .if1 .left))
+    let placed = placed-facts (a .p) (a .before) (a .m) (sym (c .before .fields-refusal .ensures) ∙ c .if1 .left) in
+    (s .pre, placed, le-of-lt (placed .enters), le-refl (a .p .retire))
 
 returns-2 : tie.Need-returns-2
 unfolding benefitRules
@@ -28,9 +30,9 @@ returns-2 c =
     let s = c .before .before .before .before .before in
     let a = s .args in
     let fields = c .before .before .before .before .fields-refusal .ensures in
-    let top = c .before .before .retirement-benefit .ensures in
+    let top = c .before .before .accrued-benefit .ensures in
     in-order (c .or-else .ensures) (c .before .unless .ensures ∙ ap (λ (x : ℕ). unless (leb x 100000000) 25) top) refl
     ∙ sym (fields-kept (a .p) (a .rows .now) (a .before) (a .m) (sym fields ∙ c .before .before .before .if1 .left))
 
 pub member-refusal-spec : {M : Type 1} → statement M
-member-refusal-spec = search (tie.close, tie.spec, returns, retirement-benefit-requires, returns-2)
+member-refusal-spec = search (tie.close, tie.spec, returns, accrued-benefit-requires, returns-2)
