@@ -7,7 +7,7 @@
 //! The same on both sides: the answers and every byte of the buffer; A, G and B(k) of each member, and nothing shared
 //! from one member to the next. What differs:
 //! - per file, reading and accepting, as casefile.rs says. Rattle keeps the figures in an array of 32,000 bytes that it
-//!   clears, adds up the lengths of all lines and then writes them where they belong; Rust writes each line at once to
+//!   clears, writes all lines to no buffer for their length and then where they belong; Rust writes each line at once to
 //!   a Vec that grows, and copies that out where it fits;
 //! - per member, Rattle works T(y,r) or Z(y,r) twice by CD and CP, and M by BP, once for N and once for L, and works
 //!   V(x) anew for each N and L that rests on it; Rust works each once. At x = r Rattle leaves N out, which Rust works
