@@ -10,7 +10,7 @@ ghost use Rattle.rounding.specs.Signed.{integer};
 ghost use Rattle.printing.specs.Amounts.{digits, whole, amount, signedAmount};
 ghost use Rattle.printing.specs.Puts.{Puts};
 
-// Writes a byte, where the buffer reaches that far.
+// Writes a byte, where the buffer reaches that far. Every writer stores through here, so that past its end each measures.
 pub(crate) fn put(out: &mut [u8], at: usize, byte: u8) -> usize
     requires { ⌜ at + 1 < 2 ^ 64 ⌝ }
     ensures { λ r. ⌜ Puts (now (out .entry)) at (byte ∷ []) (now (out .exit)) r ⌝ }

@@ -5,7 +5,6 @@ use crate::amounts::write_signed;
 use crate::amounts::write_text;
 use crate::amounts::write_whole;
 use rounding::Signed;
-ghost use mathlib.Core.Path.{_≡_};
 ghost use mathlib.Core.List.{[], _∷_, _++_};
 ghost use Prim.Native.Nat.{_+_, _^_, _≤_, _<_};
 ghost use lib.ListN.{length};
