@@ -7,7 +7,7 @@
 //! The same on both sides: the answers and every byte of the buffer; each factor, benefit and sum of weights of a member
 //! worked once, and nothing shared from one member to the next. What differs:
 //! - per file, reading and accepting, as casefile.rs says. Rattle keeps the figures in an array of 32,000 bytes that it
-//!   clears, adds up the lengths of all lines and then writes them where they belong; Rust writes each line at once to
+//!   clears, writes all lines to no buffer for their length and then where they belong; Rust writes each line at once to
 //!   a Vec that grows, and copies that out where it fits;
 //! - per member, Rattle makes N and L of the same six numbers by any method: by CD it multiplies by the one year that is
 //!   added, and at x = r by none, where Rust works N and drops it;

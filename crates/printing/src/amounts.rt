@@ -1,99 +1,99 @@
-// Whole numbers, amounts and signed amounts.
+// Bytes and texts, whole numbers, amounts and signed amounts.
 use rounding::Signed;
 ghost use mathlib.Core.Path.{_≡_};
 ghost use mathlib.Core.Bool.{_&&_};
-ghost use Prim.Native.Nat.{_+_, _≤_, _<_};
+ghost use mathlib.Core.List.{[], _∷_};
+ghost use Prim.Native.Nat.{_+_, _%_, _^_, _≤_, _<_};
 ghost use lib.Dec.{ltb};
 ghost use lib.ListN.{length};
-ghost use lib.Seq.{sets};
 ghost use Rattle.rounding.specs.Signed.{integer};
-ghost use Rattle.printing.specs.Amounts.{digits, width as Amounts·width, whole, amount, signedAmount};
+ghost use Rattle.printing.specs.Amounts.{digits, whole, amount, signedAmount};
+ghost use Rattle.printing.specs.Puts.{Puts};
 
-// How many digits n has.
-pub(crate) fn width(n: u64) -> usize
-    ensures { λ r. ⌜ r ≡ Amounts·width n ⌝ }
+// Writes a byte, where the buffer reaches that far. Every writer stores through here, so that past its end each measures.
+pub(crate) fn put(out: &mut [u8], at: usize, byte: u8) -> usize
+    requires { ⌜ at + 1 < 2 ^ 64 ⌝ }
+    ensures { λ r. ⌜ Puts (now (out .entry)) at (byte ∷ []) (now (out .exit)) r ⌝ }
 {
-    let mut w = 1;
-    let mut rest = n;
-    while 10 <= rest {
-        rest /= 10;
-        w += 1;
+    if out.len() <= at {
+        return at + 1;
     }
-    w
-}
-
-fn digit(n: u64) -> u8
-    requires { ⌜ n < 10 ⌝ }
-    ensures { λ r. ⌜ r ≡ 48 + n ⌝ }
-{
-    48 + n as u8
-}
-
-// Writes the last w digits of n, from the right.
-fn write_digits(out: &mut [u8], at: usize, w: usize, n: u64)
-    requires { ⌜ at + w ≤ length (now out) ⌝ }
-    ensures { λ _. ⌜ now (out .exit) ≡ sets (now (out .entry)) at (digits w n) ⌝ }
-{
-    let mut i = w;
-    let mut rest = n;
-    while 0 < i {
-        i -= 1;
-        out[at + i] = digit(rest % 10);
-        rest /= 10;
-    }
+    out[at] = byte;
+    at + 1
 }
 
 // Writes a text as it stands.
 pub(crate) fn write_text(out: &mut [u8], at: usize, text: &[u8]) -> usize
-    requires { ⌜ at + length (now text) ≤ length (now out) ⌝ }
-    ensures { λ r. ⌜ r ≡ at + length (now (text .entry)) ⌝ }
-    ensures { λ _. ⌜ now (out .exit) ≡ sets (now (out .entry)) at (now (text .entry)) ⌝ }
+    requires { ⌜ at + length (now text) < 2 ^ 64 ⌝ }
+    ensures { λ r. ⌜ Puts (now (out .entry)) at (now (text .entry)) (now (out .exit)) r ⌝ }
 {
+    let mut place = at;
     let mut i = 0;
     while i < text.len() {
-        out[at + i] = text[i];
+        place = put(out, place, text[i]);
         i += 1;
     }
-    at + i
+    place
 }
 
-// Writes a whole number.
+// Writes the last digit of n.
+fn write_digit(out: &mut [u8], at: usize, n: u64) -> usize
+    requires { ⌜ at + 1 < 2 ^ 64 ⌝ }
+    ensures { λ r. ⌜ Puts (now (out .entry)) at ((48 + n % 10) ∷ []) (now (out .exit)) r ⌝ }
+{
+    put(out, at, 48 + (n % 10) as u8)
+}
+
+// Writes the last two digits of n.
+fn write_two(out: &mut [u8], at: usize, n: u64) -> usize
+    requires { ⌜ at + 2 < 2 ^ 64 ⌝ }
+    ensures { λ r. ⌜ Puts (now (out .entry)) at (digits 2 n) (now (out .exit)) r ⌝ }
+    ensures { λ r. ⌜ r ≡ at + 2 ⌝ }
+{
+    let a = write_digit(out, at, n / 10);
+    write_digit(out, a, n)
+}
+
+// Writes a whole number of one digit or two.
+fn write_small(out: &mut [u8], at: usize, n: u64) -> usize
+    requires { ⌜ (n < 100) × (at + 2 < 2 ^ 64) ⌝ }
+    ensures { λ r. ⌜ Puts (now (out .entry)) at (whole n) (now (out .exit)) r ⌝ }
+    ensures { λ r. ⌜ r ≤ at + 2 ⌝ }
+{
+    if n < 10 {
+        return write_digit(out, at, n);
+    }
+    write_two(out, at, n)
+}
+
+// Writes a whole number: its other digits, if it has more than four, and then the last four, which is quicker than one
+// by one.
 pub(crate) fn write_whole(out: &mut [u8], at: usize, n: u64) -> usize
-    requires { ⌜ at + length (whole n) ≤ length (now out) ⌝ }
-    ensures { λ r. ⌜ r ≡ at + length (whole n) ⌝ }
-    ensures { λ _. ⌜ now (out .exit) ≡ sets (now (out .entry)) at (whole n) ⌝ }
+    requires { ⌜ at + 20 < 2 ^ 64 ⌝ }
+    ensures { λ r. ⌜ Puts (now (out .entry)) at (whole n) (now (out .exit)) r ⌝ }
+    ensures { λ r. ⌜ r ≤ at + 20 ⌝ }
 {
-    let w = width(n);
-    write_digits(out, at, w, n);
-    at + w
+    if n < 100 {
+        return write_small(out, at, n);
+    }
+    if n < 10_000 {
+        let a = write_small(out, at, n / 100);
+        return write_two(out, a, n);
+    }
+    let b = write_whole(out, at, n / 10_000);
+    let c = write_two(out, b, n / 100);
+    write_two(out, c, n)
 }
 
-// How many bytes an amount takes.
-pub(crate) fn amount_width(cents: u64) -> usize
-    ensures { λ r. ⌜ r ≡ length (amount cents) ⌝ }
+// Writes an amount.
+pub(crate) fn write_amount(out: &mut [u8], at: usize, cents: u64) -> usize
+    requires { ⌜ at + 23 < 2 ^ 64 ⌝ }
+    ensures { λ r. ⌜ Puts (now (out .entry)) at (amount cents) (now (out .exit)) r ⌝ }
+    ensures { λ r. ⌜ r ≤ at + 23 ⌝ }
 {
-    width(cents / 100) + 3
-}
-
-// Writes an amount at the start of the part of the output that it is lent.
-fn write_amount(out: &mut [u8], cents: u64) -> usize
-    requires { ⌜ length (amount cents) ≤ length (now out) ⌝ }
-    ensures { λ r. ⌜ r ≡ length (amount cents) ⌝ }
-    ensures { λ _. ⌜ now (out .exit) ≡ sets (now (out .entry)) 0 (amount cents) ⌝ }
-{
-    let point = write_whole(out, 0, cents / 100);
-    out[point] = 46;
-    write_digits(out, point + 1, 2, cents);
-    point + 3
-}
-
-// Writes an amount from a place on.
-pub(crate) fn put_amount(out: &mut [u8], at: usize, cents: u64) -> usize
-    requires { ⌜ at + length (amount cents) ≤ length (now out) ⌝ }
-    ensures { λ r. ⌜ r ≡ at + length (amount cents) ⌝ }
-    ensures { λ _. ⌜ now (out .exit) ≡ sets (now (out .entry)) at (amount cents) ⌝ }
-{
-    at + write_amount(&mut out[at..], cents)
+    let a = write_whole(out, at, cents / 100);
+    let b = put(out, a, 46);
+    write_two(out, b, cents)
 }
 
 // Rule 13.4, a minus sign is due: never before 0.00.
@@ -103,29 +103,29 @@ fn has_sign(z: Signed) -> bool
     if z.negative { 0 < z.size } else { false }
 }
 
-// How many bytes a signed amount takes.
-pub(crate) fn signed_width(z: Signed) -> usize
-    ensures { λ r. ⌜ r ≡ length (signedAmount (integer z)) ⌝ }
+// Writes an amount after what is already written: the amount writer is lent the part of the output that begins there.
+// Where the output ends before that, the amount is only measured.
+fn write_after(out: &mut [u8], at: usize, cents: u64) -> usize
+    requires { ⌜ at + 23 < 2 ^ 64 ⌝ }
+    ensures { λ r. ⌜ Puts (now (out .entry)) at (amount cents) (now (out .exit)) r ⌝ }
+    ensures { λ r. ⌜ r ≤ at + 23 ⌝ }
 {
-    if has_sign(z) {
-        1 + amount_width(z.size)
-    } else {
-        amount_width(z.size)
+    if out.len() < at {
+        return write_amount(out, at, cents);
     }
+    at + write_amount(&mut out[at..], 0, cents)
 }
 
-// Rule 13.4, writes a signed amount: first the sign, if one is due; then the amount writer is lent the part of the output
-// that begins after the sign.
-pub(crate) fn put_signed(out: &mut [u8], at: usize, z: Signed) -> usize
-    requires { ⌜ at + length (signedAmount (integer z)) ≤ length (now out) ⌝ }
-    ensures { λ r. ⌜ r ≡ at + length (signedAmount (integer z)) ⌝ }
-    ensures { λ _. ⌜ now (out .exit) ≡ sets (now (out .entry)) at (signedAmount (integer z)) ⌝ }
+// Rule 13.4, writes a signed amount: the sign, if one is due, and after it the amount.
+pub(crate) fn write_signed(out: &mut [u8], at: usize, z: Signed) -> usize
+    requires { ⌜ at + 24 < 2 ^ 64 ⌝ }
+    ensures { λ r. ⌜ Puts (now (out .entry)) at (signedAmount (integer z)) (now (out .exit)) r ⌝ }
+    ensures { λ r. ⌜ r ≤ at + 24 ⌝ }
 {
     if has_sign(z) {
-        out[at] = 45;
-        let after = at + 1;
-        after + write_amount(&mut out[after..], z.size)
+        let after = put(out, at, 45);
+        write_after(out, after, z.size)
     } else {
-        put_amount(out, at, z.size)
+        write_amount(out, at, z.size)
     }
 }

@@ -1,109 +1,68 @@
 // The lines: amounts after a number, a signed amount, a pair of numbers.
-use crate::amounts::amount_width;
-use crate::amounts::put_amount;
-use crate::amounts::put_signed;
-use crate::amounts::signed_width;
-use crate::amounts::width;
+use crate::amounts::put;
+use crate::amounts::write_amount;
+use crate::amounts::write_signed;
 use crate::amounts::write_text;
 use crate::amounts::write_whole;
 use rounding::Signed;
-ghost use mathlib.Core.Path.{_≡_};
-ghost use Prim.Native.Nat.{_+_, _≤_};
+ghost use mathlib.Core.List.{[], _∷_, _++_};
+ghost use Prim.Native.Nat.{_+_, _^_, _≤_, _<_};
 ghost use lib.ListN.{length};
-ghost use lib.Seq.{sets};
 ghost use Rattle.rounding.specs.Signed.{integer};
-ghost use Rattle.printing.specs.Lines.{fields, amountsLine, signedLine, pairLine};
+ghost use Rattle.printing.specs.Amounts.{whole, amount};
+ghost use Rattle.printing.specs.Lines.{fields, signedLine, pairLine};
+ghost use Rattle.printing.specs.Puts.{Puts};
 
-// How many bytes so many amounts take, each with its comma.
-fn fields_width(amounts: &[u64]) -> usize
-    requires { ⌜ length (now amounts) ≤ 4 ⌝ }
-    ensures { λ r. ⌜ (r ≡ length (fields (now (amounts .entry)))) × (r ≤ 96) ⌝ }
-{
-    let mut w = 0;
-    let mut i = 0;
-    while i < amounts.len() {
-        w += 1 + amount_width(amounts[i]);
-        i += 1;
-    }
-    w
-}
-
-// Writes amounts, each after a comma.
-fn write_fields(out: &mut [u8], at: usize, amounts: &[u64]) -> usize
-    requires { ⌜ at + length (fields (now amounts)) ≤ length (now out) ⌝ }
-    ensures { λ r. ⌜ r ≡ at + length (fields (now (amounts .entry))) ⌝ }
-    ensures { λ _. ⌜ now (out .exit) ≡ sets (now (out .entry)) at (fields (now (amounts .entry))) ⌝ }
-{
-    let mut place = at;
-    let mut i = 0;
-    while i < amounts.len() {
-        out[place] = 44;
-        let next = put_amount(out, place + 1, amounts[i]);
-        place = next;
-        i += 1;
-    }
-    place
-}
-
-// How many bytes a line of a number and amounts takes.
-pub fn amounts_line_width(key: &[u8], n: u64, amounts: &[u64]) -> usize
-    requires { ⌜ (length (now key) ≤ 16) × (length (now amounts) ≤ 4) ⌝ }
-    ensures { λ r. ⌜ (r ≡ length (amountsLine (now (key .entry)) n (now (amounts .entry)))) × (r ≤ 133) ⌝ }
-{
-    key.len() + width(n) + fields_width(amounts) + 1
-}
-
-// Writes a line of a number and amounts.
-pub fn write_amounts_line(out: &mut [u8], at: usize, key: &[u8], n: u64, amounts: &[u64]) -> usize
-    requires { ⌜ at + length (amountsLine (now key) n (now amounts)) ≤ length (now out) ⌝ }
-    ensures { λ r. ⌜ r ≡ at + length (amountsLine (now (key .entry)) n (now (amounts .entry))) ⌝ }
-    ensures { λ _. ⌜ now (out .exit) ≡ sets (now (out .entry)) at (amountsLine (now (key .entry)) n (now (amounts .entry))) ⌝ }
+// Writes how a line begins that has a number: its key and the number.
+pub fn write_start(out: &mut [u8], at: usize, key: &[u8], n: u64) -> usize
+    requires { ⌜ (length (now key) ≤ 16) × (at + 36 < 2 ^ 64) ⌝ }
+    ensures { λ r. ⌜ Puts (now (out .entry)) at (now (key .entry) ++ whole n) (now (out .exit)) r ⌝ }
+    ensures { λ r. ⌜ r ≤ at + 36 ⌝ }
 {
     let a = write_text(out, at, key);
-    let b = write_whole(out, a, n);
-    let c = write_fields(out, b, amounts);
-    out[c] = 10;
-    c + 1
+    write_whole(out, a, n)
 }
 
-// How many bytes a line of a signed amount takes.
-pub fn signed_line_width(key: &[u8], z: Signed) -> usize
-    requires { ⌜ length (now key) ≤ 16 ⌝ }
-    ensures { λ r. ⌜ (r ≡ length (signedLine (now (key .entry)) (integer z))) × (r ≤ 41) ⌝ }
+// Writes a comma and an amount.
+pub fn write_field(out: &mut [u8], at: usize, cents: u64) -> usize
+    requires { ⌜ at + 24 < 2 ^ 64 ⌝ }
+    ensures { λ r. ⌜ Puts (now (out .entry)) at (44 ∷ amount cents) (now (out .exit)) r ⌝ }
+    ensures { λ r. ⌜ r ≤ at + 24 ⌝ }
 {
-    key.len() + signed_width(z) + 1
+    let a = put(out, at, 44);
+    write_amount(out, a, cents)
+}
+
+// Writes how a line of amounts ends: three fields and byte 10.
+pub fn write_end(out: &mut [u8], at: usize, value: u64, cost: u64, liability: u64) -> usize
+    requires { ⌜ at + 73 < 2 ^ 64 ⌝ }
+    ensures { λ r. ⌜ Puts (now (out .entry)) at (fields (value ∷ cost ∷ liability ∷ []) ++ (10 ∷ [])) (now (out .exit)) r ⌝ }
+    ensures { λ r. ⌜ r ≤ at + 73 ⌝ }
+{
+    let a = write_field(out, at, value);
+    let b = write_field(out, a, cost);
+    let c = write_field(out, b, liability);
+    put(out, c, 10)
 }
 
 // Writes a line of a signed amount.
 pub fn write_signed_line(out: &mut [u8], at: usize, key: &[u8], z: Signed) -> usize
-    requires { ⌜ at + length (signedLine (now key) (integer z)) ≤ length (now out) ⌝ }
-    ensures { λ r. ⌜ r ≡ at + length (signedLine (now (key .entry)) (integer z)) ⌝ }
-    ensures { λ _. ⌜ now (out .exit) ≡ sets (now (out .entry)) at (signedLine (now (key .entry)) (integer z)) ⌝ }
+    requires { ⌜ (length (now key) ≤ 16) × (at + 41 < 2 ^ 64) ⌝ }
+    ensures { λ r. ⌜ Puts (now (out .entry)) at (signedLine (now (key .entry)) (integer z)) (now (out .exit)) r ⌝ }
+    ensures { λ r. ⌜ r ≤ at + 41 ⌝ }
 {
     let a = write_text(out, at, key);
-    let b = put_signed(out, a, z);
-    out[b] = 10;
-    b + 1
-}
-
-// How many bytes a line of two whole numbers takes.
-pub fn pair_line_width(key: &[u8], a: u64, b: u64) -> usize
-    requires { ⌜ length (now key) ≤ 16 ⌝ }
-    ensures { λ r. ⌜ r ≡ length (pairLine (now (key .entry)) a b) ⌝ }
-{
-    key.len() + width(a) + 1 + width(b) + 1
+    let b = write_signed(out, a, z);
+    put(out, b, 10)
 }
 
 // Writes a line of two whole numbers.
 pub fn write_pair_line(out: &mut [u8], at: usize, key: &[u8], a: u64, b: u64) -> usize
-    requires { ⌜ at + length (pairLine (now key) a b) ≤ length (now out) ⌝ }
-    ensures { λ r. ⌜ r ≡ at + length (pairLine (now (key .entry)) a b) ⌝ }
-    ensures { λ _. ⌜ now (out .exit) ≡ sets (now (out .entry)) at (pairLine (now (key .entry)) a b) ⌝ }
+    requires { ⌜ (length (now key) ≤ 16) × (at + 58 < 2 ^ 64) ⌝ }
+    ensures { λ r. ⌜ Puts (now (out .entry)) at (pairLine (now (key .entry)) a b) (now (out .exit)) r ⌝ }
 {
-    let c = write_text(out, at, key);
-    let d = write_whole(out, c, a);
-    out[d] = 44;
-    let e = write_whole(out, d + 1, b);
-    out[e] = 10;
-    e + 1
+    let c = write_start(out, at, key, a);
+    let d = put(out, c, 44);
+    let e = write_whole(out, d, b);
+    put(out, e, 10)
 }

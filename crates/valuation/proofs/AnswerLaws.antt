@@ -7,7 +7,7 @@ use native.Mathlib.Omega.{arith}
 use borrow.Author.Tests.{le-leb, lt-leb}
 use lib.Dec.{leb}
 use lib.ListN.{length, getD, take, length-append}
-use lib.Seq.{sets, sets-eq, take-suc, take-length}
+use lib.Seq.{sets-eq, take-suc, take-length}
 use lib.IntN.{pos, _-ℤ_, _*ℤ_}
 use Rattle.rounding.specs.Nearest.{nearestℤ}
 use Rattle.rounding.specs.declared.Signed.{Signed}
@@ -22,9 +22,9 @@ use Rattle.casefile.specs.Case.{Case, AcceptedCase, nobody, acceptingOf, accept
 use Rattle.casefile.specs.Stored.{memberAt, arrayOf, idBeforeAt, rowsAfter, membersAfter, AcceptedArrays}
 use Rattle.casefile.proofs.StoredLaws.{array-member}
 use Rattle.casefile.proofs.Accepted.{accepted-case}
-use Rattle.casefile.specs.Text.{bytes}
-use Rattle.printing.proofs.AmountLaws.{whole-length, width-most}
-use Rattle.printing.proofs.LineLaws.{pair-line-length}
+use Rattle.printing.specs.Lines.{pairLine}
+use Rattle.printing.specs.Puts.{Puts}
+use Rattle.printing.proofs.AmountLaws.{whole-most}
 use Rattle.valuation.specs.declared.Answer.the-variants.{Written, Refused}
 use Rattle.valuation.specs.declared.totals.Totals.{Totals}
 use Rattle.valuation.specs.Totals.{totals, unfunded, supplemental}
@@ -57,22 +57,17 @@ module _ (p : Plan) (rows : List (List ℕ)) where
     printed-is n is sums z w =
         rw (w, z, integer-signed, integer-signed, sums, lines-are n is, members-count n)
 
-    -- how long it is
-    pub printed-length : (n : ℕ) (t : Totals) (u s : Signed) → linesIn members worked n ++ planLines n t (integer u) (integer s) ≡ printed p rows (membersIn members n) → length (printed p rows (membersIn members n)) ≡ length (linesIn members worked n) + length (planLines n t (integer u) (integer s))
-    printed-length n t u s is = sym (ap length is) ∙ length-append (linesIn members worked n) _
+-- ---- the answer and the buffer: the lines are measured in a buffer `none`, and written where they fit
+pub too-long : (old : List ℕ) {lines none after : List ℕ} {needed : ℕ} → Puts none 0 lines after needed → length old < needed → (Refused 30 0 ≡ answer (fitting (length old) lines)) × (old ≡ buffer (fitting (length old) lines) old)
+unfolding fitting
+too-long old {lines} m h = rw (lt-leb (length lines) (length old) (omega (arith, m .ends))) (refl, refl)
 
--- ---- the answer and the buffer
-module _ (old lines : List ℕ) where
-  pub too-long : length old < length lines → (Refused 30 0 ≡ answer (fitting (length old) lines)) × (old ≡ buffer (fitting (length old) lines) old)
-  unfolding fitting
-  too-long h = rw (lt-leb (length lines) (length old) h) (refl, refl)
-
-  pub written : {out : List ℕ} {end : ℕ} → length lines ≤ length old → end ≡ length lines → out ≡ sets old 0 lines → (Written end ≡ answer (fitting (length old) lines)) × (out ≡ buffer (fitting (length old) lines) old)
-  unfolding fitting
-  written h all is =
-      let none : 0 + length lines ≡ length lines = omega arith in
-      let at-start = rw none at (sets-eq lines old 0 (omega arith)) in
-      rw (le-leb (length lines) (length old) h) (ap Written all, is ∙ at-start)
+pub written : {old out lines none after : List ℕ} {needed end : ℕ} → Puts none 0 lines after needed → needed ≤ length old → Puts old 0 lines out end → (Written end ≡ answer (fitting (length old) lines)) × (out ≡ buffer (fitting (length old) lines) old)
+unfolding fitting
+written {old} {lines = lines} m h w =
+    let none : 0 + length lines ≡ length lines = omega arith in
+    let at-start = rw none at (sets-eq lines old 0 (omega (arith, m .ends))) in
+    rw (le-leb (length lines) (length old) (omega (arith, m .ends))) (ap Written (w .ends ∙ none), w .holds ∙ at-start)
 
 -- ---- what accepting hands on
 in-array : (a : List ℕ) (l : List Member) → ((j : ℕ) → j < length l → memberAt a j ≡ getD l j nobody) → (n : ℕ) → n ≤ length l → membersIn a n ≡ take n l
@@ -117,9 +112,9 @@ module _ (s : List ℕ) (room : ℕ) where
 -- ---- what the program prints, from the two answers
 -- a word has 20 digits at most, so that the line of a refusal has 50 bytes at most
 pub refusal-line-most : (number line : ℕ) → number < 2 ^ 64 → line < 2 ^ 64 → length (refusalLine number line) ≤ 50
-unfolding refusalLine
+unfolding refusalLine pairLine
 refusal-line-most number line hn hl =
-    omega (arith, pair-line-length (bytes "refused=") number line, whole-length number, whole-length line, width-most number hn, width-most line hl)
+    simp length-append (omega (arith, whole-most 19 number (omega arith), whole-most 19 line (omega arith)))
 
 -- where its line fits it is written, and where it doesn't the refusal stays what it was
 module _ (old : List ℕ) (number line : ℕ) where

@@ -5,10 +5,7 @@
 mod lines;
 mod totals;
 
-use crate::lines::member_lines_width;
-use crate::lines::plan_lines_width;
-use crate::lines::write_member_lines;
-use crate::lines::write_plan_lines;
+use crate::lines::write_lines;
 use crate::totals::supplemental_of;
 use crate::totals::unfunded_of;
 use crate::totals::work;
@@ -24,12 +21,12 @@ pub use plan::Plan;
 pub use plan::acceptance::Acceptance;
 pub use plan::acceptance::accept_member;
 pub use plan::acceptance::accept_plan;
-use printing::lines::pair_line_width;
 use printing::lines::write_pair_line;
 ghost use mathlib.Core.Path.{_≡_};
 ghost use Prim.Native.Nat.{_≤_};
 ghost use lib.ListN.{length};
 ghost use Rattle.casefile.specs.Outcome.{refusal};
+ghost use Rattle.printing.specs.Puts.{Puts};
 ghost use Rattle.valuation.specs.Lines.{printed, refusalLine};
 ghost use Rattle.valuation.specs.Answers.{fitting, valuedOf, answer, buffer, orRefusal, programOf, Writes};
 ghost use Rattle.valuation.specs.Worked.{AcceptedMembers, membersIn};
@@ -70,13 +67,20 @@ fn value_accepted(
     let totals = work(p, rows, members, n, &mut worked);
     let unfunded = unfunded_of(totals.liability, p.assets);
     let supplemental = supplemental_of(unfunded, p.interest, p.years);
-    let member_bytes = member_lines_width(members, &worked, n);
-    let plan_bytes = plan_lines_width(count, totals, unfunded, supplemental);
-    if out.len() < member_bytes + plan_bytes {
+    let mut nowhere = [0u8; 0];
+    let needed = write_lines(
+        &mut nowhere,
+        members,
+        &worked,
+        count,
+        totals,
+        unfunded,
+        supplemental,
+    );
+    if out.len() < needed {
         return Answer::Refused(30, 0);
     }
-    let at = write_member_lines(out, members, &worked, n);
-    let end = write_plan_lines(out, at, count, totals, unfunded, supplemental);
+    let end = write_lines(out, members, &worked, count, totals, unfunded, supplemental);
     Answer::Written(end)
 }
 
@@ -85,11 +89,19 @@ pub fn refusal_line(number: u64, line: u64, out: &mut [u8]) -> Answer
     ensures { λ r. ⌜ r ≡ answer (fitting (length (now (out .entry))) (refusalLine number line)) ⌝ }
     ensures { λ _. ⌜ now (out .exit) ≡ buffer (fitting (length (now (out .entry))) (refusalLine number line)) (now (out .entry)) ⌝ }
 {
-    if out.len() < pair_line_width(b"refused=", number, line) {
+    let mut nowhere = [0u8; 0];
+    if out.len() < write_refusal(&mut nowhere, number, line) {
         return Answer::Refused(30, 0);
     }
-    let end = write_pair_line(out, 0, b"refused=", number, line);
+    let end = write_refusal(out, number, line);
     Answer::Written(end)
+}
+
+// Writes the line of a refusal.
+fn write_refusal(out: &mut [u8], number: u64, line: u64) -> usize
+    ensures { λ r. ⌜ Puts (now (out .entry)) 0 (refusalLine number line) (now (out .exit)) r ⌝ }
+{
+    write_pair_line(out, 0, b"refused=", number, line)
 }
 
 // Rule 13.1, what the program prints of a case file, at the start of `out`: its lines, or the one line of its refusal.

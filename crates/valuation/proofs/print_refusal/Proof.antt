@@ -5,27 +5,12 @@ use Rattle.valuation.proofs.AnswerLaws.{line-written, line-kept}
 use Rattle.valuation.proofs.print_refusal.Statement.{statement}
 use Rattle.valuation.proofs.print_refusal.Tie as tie
 
-refusal-line-requires : tie.Need-refusal-line-requires
-refusal-line-requires c κs = search needs
-
-enum-known-n : tie.Need-enum-known-n
-enum-known-n c = search needs
-
-enum-told : tie.Need-enum-told
-enum-told c = search needs
-
-same-length : tie.Need-same-length
-same-length c = search needs
-
 returns : tie.Need-returns
 returns c =
     let a = c .before .before .before .before .before .before .before .before .args in
     let w = c .before .before .before .before .before .refusal-line .ensures in
     let is = line-written (a .out .now) (a .number) (a .line) (sym (c .before .n .given .1) ∙ w .0) (w .1) in
     (is .0, (is .1, λ room. (_, refl)))
-
-same-length-2 : tie.Need-same-length-2
-same-length-2 c = search needs
 
 returns-2 : tie.Need-returns-2
 returns-2 c =
@@ -37,10 +22,10 @@ pub print-refusal-spec : {M : Type 1} → statement M
 print-refusal-spec =
     tie.close
     (tie.spec
-    refusal-line-requires
-    enum-known-n
-    enum-told
-    same-length
+    (λ c κs. search needs)
+    (λ c. search needs)
+    (λ c. search needs)
+    (λ c. search needs)
     returns
-    same-length-2
+    (λ c. search needs)
     returns-2)

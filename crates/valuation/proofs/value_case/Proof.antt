@@ -17,22 +17,10 @@ zero-rows = replicate 106 (replicate 4 0)
 abbrev zeros : List ℕ
 zeros = replicate 4000 0
 
-accept-case-requires : tie.Need-accept-case-requires
-accept-case-requires c κs = search needs
-
-enum-known-p : tie.Need-enum-known-p
-enum-known-p c = search needs
-
 value-accepted-requires : tie.Need-value-accepted-requires
 value-accepted-requires c κs =
     let a = c .before .before .before .before .before .accept-case .ensures in
     accepted-members (accepted-arrays (c .before .before .before .before .before .before .before .before .before .before .args .case .now) _ _ (c .before .before .before .before .before .accept-case .last .1 .0) zero-rows (c .before .before .before .before .before .accept-case .last .1 .1 .0) zeros (sym (c .before .before .before .p .given .1) ∙ a .0) (a .1 .0) (a .1 .1))
-
-enum-known-number : tie.Need-enum-known-number
-enum-known-number c = search needs
-
-same-length : tie.Need-same-length
-same-length c = search needs
 
 returns : tie.Need-returns
 returns c =
@@ -52,10 +40,10 @@ pub value-case-spec : {M : Type 1} → statement M
 value-case-spec =
     tie.close
     (tie.spec
-    accept-case-requires
-    enum-known-p
+    (λ c κs. search needs)
+    (λ c. search needs)
     value-accepted-requires
-    enum-known-number
-    same-length
+    (λ c. search needs)
+    (λ c. search needs)
     returns
     returns-2)

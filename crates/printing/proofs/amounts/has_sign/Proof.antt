@@ -6,8 +6,5 @@ use Rattle.printing.proofs.amounts.has_sign.Tie as tie
 returns : tie.Need-returns
 returns c = simp (c .before .if1 .taken)
 
-returns-2 : tie.Need-returns-2
-returns-2 c = search needs
-
 pub has-sign-spec : {M : Type 1} → statement M
-has-sign-spec = tie.close (tie.spec returns returns-2)
+has-sign-spec = tie.close (tie.spec returns (λ c. search needs))

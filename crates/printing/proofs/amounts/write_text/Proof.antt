@@ -1,56 +1,35 @@
 -- `printing::amounts::write_text` meets its contract.
 use borrow.Author.Needs.{needs}
 use native.Mathlib.Omega.{arith}
-use native.Mathlib.Nat.{add-zero}
-use mathlib.Core.Path.{_≡_, refl, sym, _∙_}
+use mathlib.Core.Path.{_≡_, refl}
 use Prim.Native.Nat.{_+_, _-_, _≤_}
-use lib.ListN.{length, drop, length-set}
-use lib.Seq.{sets}
-use Rattle.printing.proofs.SetsLaws.{byte-on, text-done}
+use lib.ListN.{length, take}
+use lib.Seq.{take-all}
+use Rattle.printing.specs.Puts.{Puts}
+use Rattle.printing.proofs.SetsLaws.{byte-on}
 use Rattle.printing.proofs.amounts.write_text.Statement.{statement}
 use Rattle.printing.proofs.amounts.write_text.Tie as tie
 
 abbrev Inv-loop : tie.InvT-loop
-Inv-loop out₀ at text i₀ out i = (i ≤ length text) × (length out ≡ length out₀) × (sets out (at + i) (drop i text) ≡ sets out₀ at text)
+Inv-loop out₀ at text place₀ i₀ out place i = (i ≤ length text) × (place ≡ at + i) × (length out ≡ length out₀) × Puts out₀ at (take i text) out place
 
 abbrev μ-loop : tie.MeasureT-loop
-μ-loop out₀ at text i₀ out i = length text - i
+μ-loop out₀ at text place₀ i₀ out place i = length text - i
 
 loop-holds : tie.Need-loop-holds Inv-loop μ-loop
-loop-holds c = (omega arith, refl, simp add-zero)
-
-shared-slice-read-out : tie.Need-shared-slice-read-out Inv-loop μ-loop
-shared-slice-read-out c = search needs
-
-add-out : tie.Need-add-out Inv-loop μ-loop
-add-out c = search needs
-
-slice-write-out : tie.Need-slice-write-out Inv-loop μ-loop
-slice-write-out c = omega (arith, c .before .before .before .pre)
-
-add-i : tie.Need-add-i Inv-loop μ-loop
-add-i c = search needs
-
-loop-less : tie.Need-loop-less Inv-loop μ-loop
-loop-less c = search needs
+loop-holds c = (search needs, omega arith, refl, record { holds = refl; ends = omega arith })
 
 loop-again : tie.Need-loop-again Inv-loop μ-loop
 loop-again c =
-    let a = c .before .before .before .args in
-    let l = c .before .before .loop in
-    (omega arith, simp length-set (l .inv .1), byte-on (l .out) (a .at) (l .i) (a .text .now) (c .before .loop-test .taken) ∙ l .inv .2)
-
-add-result : tie.Need-add-result Inv-loop μ-loop
-add-result c = search needs
-
-same-length : tie.Need-same-length Inv-loop μ-loop
-same-length c = c .before .loop .inv .1
+    let l = c .before .before .before .before .before .before .loop in
+    let b = c .before .before .put .ensures in
+    (search needs, omega (arith, b .ends), search needs, byte-on _ (l .i) (search needs) (l .inv .3) b)
 
 returns : tie.Need-returns Inv-loop μ-loop
 returns c =
-    let a = c .before .before .args in
+    let s = c .before .before .before .before .args .text .now in
     let l = c .before .loop in
-    (omega arith, sym (text-done (l .out) (a .at) (l .i) (a .text .now) (c .loop-test .left)) ∙ l .inv .2)
+    rw (take-all (l .i) s (c .loop-test .left)) at (l .inv .3)
 
 pub write-text-spec : {M : Type 1} → statement M
 write-text-spec =
@@ -59,12 +38,10 @@ write-text-spec =
     Inv-loop
     μ-loop
     loop-holds
-    shared-slice-read-out
-    add-out
-    slice-write-out
-    add-i
-    loop-less
+    (λ c. search needs)
+    (λ c κs. search needs)
+    (λ c. search needs)
+    (λ c. search needs)
     loop-again
-    add-result
-    same-length
+    (λ c. search needs)
     returns)
