@@ -52,6 +52,10 @@ accepted-of (values c) {p} {n} oldRows oldMembers is answer table array =
 accepted-of (refusal k l) oldRows oldMembers is answer table array =
     let z : _≡_ {A = ℕ} 0 1 = cc in absurd (omega arith)
 
-pub accepted-arrays : AcceptedFillsArrays
+-- the values of an accepted file keep every rule
+pub accepted-case : (s : List ℕ) (c : Case) → acceptingOf s ≡ values c → AcceptedCase c
 unfolding acceptingOf
-accepted-arrays s p n rows oldRows members oldMembers = accepted-of (acceptingOf s) oldRows oldMembers (λ c e. accepted-keeps s c e .1)
+accepted-case s c e = accepted-keeps s c e .1
+
+pub accepted-arrays : AcceptedFillsArrays
+accepted-arrays s p n rows oldRows members oldMembers = accepted-of (acceptingOf s) oldRows oldMembers (accepted-case s)
