@@ -6,6 +6,7 @@ use casefile::Accepting;
 use casefile::Reading;
 use libc::STDIN_FILENO;
 use libc::STDOUT_FILENO;
+use plan::Members;
 use plan::Plan;
 ghost use Prim.Native.Nat.{_<_};
 
@@ -63,7 +64,7 @@ fn reading(case: &[u8]) {
 
 fn accepting(case: &[u8]) {
     let mut rows = [[0u32; 4]; 106];
-    let mut members = [0u64; 4000];
+    let mut members = [[0u64; 4]; 1000];
     match casefile::accept_case(case, &mut rows, &mut members) {
         Accepting::Accepted(p, count) => {
             io::write_all(STDOUT_FILENO, b"accepted=");
@@ -125,14 +126,21 @@ fn sum_of_row(so_far: u64, row: [u32; 4]) -> u64 {
     sum(disability, number(row[3]))
 }
 
-fn sum_of_members(members: [u64; 4000], count: u64) -> u64 {
+fn sum_of_members(members: Members, count: u64) -> u64 {
     let mut total = 0;
-    for j in 0..4000 {
-        if (j as u64) / 4 < count {
-            total = sum(total, members[j]);
+    for j in 0..1000 {
+        if (j as u64) < count {
+            total = sum_of_member(total, members[j]);
         }
     }
     total
+}
+
+fn sum_of_member(so_far: u64, member: [u64; 4]) -> u64 {
+    let id = sum(so_far, member[0]);
+    let entry = sum(id, member[1]);
+    let age = sum(entry, member[2]);
+    sum(age, member[3])
 }
 
 fn number(x: u32) -> u64 {

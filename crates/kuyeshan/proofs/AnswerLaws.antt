@@ -9,8 +9,9 @@ use Rattle.casefile.specs.declared.Reading.{Reading}
 use Rattle.casefile.specs.declared.Reading.the-variants.{Read, Refused as ReadingRefused}
 use Rattle.casefile.specs.declared.Accepting.{Accepting}
 use Rattle.casefile.specs.declared.Accepting.the-variants.{Accepted, Refused as AcceptingRefused}
-use Rattle.casefile.specs.Outcome.{Outcome, values, refusal}
-use Rattle.casefile.specs.Case.{Case, walkOf, reading, readingOf, accepting}
+use Rattle.walk.specs.Outcome.{Outcome, values, refusal}
+use Rattle.walk.specs.Walk.{Case, walkOf}
+use Rattle.casefile.specs.Answers.{reading, readingOf, accepting}
 use Rattle.costs.specs.declared.Figures.{Figures}
 use Rattle.costs.specs.declared.Valuation.{Valuation}
 use Rattle.costs.specs.declared.Valuation.the-variants.{Valued, Refused as ValuationRefused}

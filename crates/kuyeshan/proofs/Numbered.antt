@@ -1,17 +1,16 @@
 -- The statements of specs/Statements.antt: no refusal has the number 0.
 use Prim.Native.Nat.{ℕ, zero, suc, _<_}
-use mathlib.Core.Path.{_≡_, ap}
+use mathlib.Core.Path.{_≡_}
 use mathlib.Core.Bool.{Bool, true, false, cond}
-use mathlib.Core.Logic.{⊎-elim}
 use native.Mathlib.Omega.{arith}
 use borrow.Author.Tests.{ne-eqb}
 use lib.Dec.{leb, eqb}
 use lib.ListN.{length}
 use Rattle.plan.specs.Acceptance.{loneRefusal}
-use Rattle.casefile.specs.Outcome.{Outcome, values, refusal, andThen}
-use Rattle.casefile.specs.Case.{reading, readingOf, acceptingOf}
-use Rattle.casefile.specs.Answers.{FormNumber, RangeNumber, too-long, cut, tail, count, plan-form, member-form, surplus, of-a-number, of-average, of-death, of-weight, of-id, of-entry, of-age, of-salary, of-benefit}
-use Rattle.casefile.proofs.Theorems.{reading-gives, accepting-refuses}
+use Rattle.walk.specs.Outcome.{Outcome, values, refusal, andThen}
+use Rattle.walk.specs.Answers.{Part, FormOf, term-cut, term-form, row-cut, row-form, tail-cut, count, tail-form, surplus, after-end, RangeOf, of-a-term, of-average, of-a-rate, of-death, of-weight, of-id, of-entry, of-age, of-salary, of-benefit, Placed, no-line, of-form, of-range}
+use Rattle.walk.proofs.Theorems.{refusals-are-placed}
+use Rattle.casefile.specs.Answers.{acceptingOf}
 use Rattle.costs.specs.declared.Figures.{Figures}
 use Rattle.costs.specs.declared.Valuation.the-variants.{Valued, Refused}
 use Rattle.costs.specs.Valuation.{figures, valuation}
@@ -19,18 +18,21 @@ use Rattle.valuation.specs.Lines.{printed}
 use Rattle.valuation.specs.Answers.{fitting, valuedOf}
 use Rattle.kuyeshan.specs.Statements.{Numbered, ReadingNumbered, AcceptingNumbered, ValuingNumbered, FittingNumbered, MemberNumbered}
 
-form-above : {n : ℕ} → FormNumber n → 0 < n
-form-above too-long = omega arith
-form-above cut = omega arith
-form-above tail = omega arith
+form-above : {part : Part} {n : ℕ} → FormOf part n → 0 < n
+form-above term-cut = omega arith
+form-above term-form = omega arith
+form-above row-cut = omega arith
+form-above row-form = omega arith
+form-above tail-cut = omega arith
 form-above count = omega arith
-form-above plan-form = omega arith
-form-above member-form = omega arith
+form-above tail-form = omega arith
 form-above surplus = omega arith
+form-above after-end = omega arith
 
-range-above : {n : ℕ} → RangeNumber n → 0 < n
-range-above of-a-number = omega arith
+range-above : {part : Part} {n : ℕ} → RangeOf part n → 0 < n
+range-above of-a-term = omega arith
 range-above of-average = omega arith
+range-above of-a-rate = omega arith
 range-above of-death = omega arith
 range-above of-weight = omega arith
 range-above of-id = omega arith
@@ -39,14 +41,18 @@ range-above of-age = omega arith
 range-above of-salary = omega arith
 range-above of-benefit = omega arith
 
+placed-above : {n l : ℕ} → Placed n l → 0 < n
+placed-above no-line = omega arith
+placed-above (of-form part f at) = form-above f
+placed-above (of-range part r at) = range-above r
+
 -- ---- the case file
 pub reading-numbered : ReadingNumbered
-unfolding readingOf
-reading-numbered case number line is = form-above (reading-gives case number line (ap reading is))
+reading-numbered case number line is = placed-above (refusals-are-placed false case number line is)
 
 pub accepting-numbered : AcceptingNumbered
-accepting-numbered case number line is =
-    ⊎-elim (λ read. form-above (reading-gives case number line read)) range-above (accepting-refuses case number line is)
+unfolding acceptingOf
+accepting-numbered case number line is = placed-above (refusals-are-placed true case number line is)
 
 -- ---- writing
 pub fitting-numbered : FittingNumbered

@@ -2,7 +2,7 @@
 use Prim.Native.Nat.{ℕ}
 use mathlib.Core.List.{List}
 use lib.ListN.{length}
-use Rattle.casefile.specs.Outcome.{Outcome, values, refusal}
+use Rattle.walk.specs.Outcome.{Outcome, values, refusal}
 
 -- rule 12.1: the refusal's number
 abbrev pub numberOf : {A : Type 0} → Outcome A → ℕ

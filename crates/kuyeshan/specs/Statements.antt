@@ -5,8 +5,9 @@ use mathlib.Core.List.{List}
 use mathlib.Core.Bool.{false}
 use Rattle.plan.specs.declared.Plan.{Plan}
 use Rattle.plan.specs.declared.Member.{Member}
-use Rattle.casefile.specs.Outcome.{Outcome, refusal}
-use Rattle.casefile.specs.Case.{walkOf, acceptingOf}
+use Rattle.walk.specs.Outcome.{Outcome, refusal}
+use Rattle.walk.specs.Walk.{walkOf}
+use Rattle.casefile.specs.Answers.{acceptingOf}
 use Rattle.costs.specs.declared.Valuation.the-variants.{Refused}
 use Rattle.costs.specs.Valuation.{valuation}
 use Rattle.valuation.specs.Answers.{fitting, valuedOf}

@@ -10,8 +10,9 @@ use valuation::Answer;
 ghost use mathlib.Core.Path.{_≡_};
 ghost use mathlib.Core.Bool.{false};
 ghost use lib.ListN.{length};
-ghost use Rattle.casefile.specs.Heading.{planOf};
-ghost use Rattle.casefile.specs.Case.{walkOf, acceptingOf};
+ghost use Rattle.plan.specs.Acceptance.{planFrom};
+ghost use Rattle.walk.specs.Walk.{walkOf};
+ghost use Rattle.casefile.specs.Answers.{acceptingOf};
 ghost use Rattle.costs.specs.Valuation.{valuation};
 ghost use Rattle.valuation.specs.Lines.{refusalLine};
 ghost use Rattle.valuation.specs.Answers.{fitting, valuedOf, buffer};
@@ -43,7 +44,7 @@ pub extern "C" fn kuyeshan_accept(case: &[u8], line: &mut u64) -> u64
     ensures { λ _. ⌜ now (line .exit) ≡ lineOf (acceptingOf (now (case .entry))) ⌝ }
 {
     let mut rows = [[0u32; 4]; 106];
-    let mut members = [0u64; 4000];
+    let mut members = [[0u64; 4]; 1000];
     match casefile::accept_case(case, &mut rows, &mut members) {
         Accepting::Accepted(_, _) => {
             *line = 0;
@@ -116,8 +117,8 @@ pub extern "C" fn kuyeshan_value_member(
     member: &[u64; 4],
     figures: &mut [u64; 4],
 ) -> u64
-    ensures { λ r. ⌜ r ≡ refusedBy (valuation (planOf (now (plan .entry))) (now (rows .entry)) (memberOf (now (member .entry)))) ⌝ }
-    ensures { λ _. ⌜ now (figures .exit) ≡ figuresAfter (valuation (planOf (now (plan .entry))) (now (rows .entry)) (memberOf (now (member .entry)))) (now (figures .entry)) ⌝ }
+    ensures { λ r. ⌜ r ≡ refusedBy (valuation (planFrom (now (plan .entry))) (now (rows .entry)) (memberOf (now (member .entry)))) ⌝ }
+    ensures { λ _. ⌜ now (figures .exit) ≡ figuresAfter (valuation (planFrom (now (plan .entry))) (now (rows .entry)) (memberOf (now (member .entry)))) (now (figures .entry)) ⌝ }
 {
     let p = plan_of(plan);
     let m = member_of(member);
@@ -131,7 +132,7 @@ pub extern "C" fn kuyeshan_value_member(
 }
 
 fn plan_of(numbers: &[u64; 8]) -> Plan
-    ensures { λ p. ⌜ p ≡ planOf (now (numbers .entry)) ⌝ }
+    ensures { λ p. ⌜ p ≡ planFrom (now (numbers .entry)) ⌝ }
 {
     Plan {
         interest: numbers[0],

@@ -6,5 +6,5 @@ use Rattle.case_answers.proofs.sum_of_members.Tie as tie
 
 pub sum-of-members-spec : {M : Type 1} → statement M
 sum-of-members-spec =
-    tie.close (tie.spec (λ count members total₀ j₀ total j. j ≤ 4000) (λ count members total₀ j₀ total j. 4000 - j)
+    tie.close (tie.spec (λ count members total₀ j₀ total j. j ≤ 1000) (λ count members total₀ j₀ total j. 1000 - j)
     (omega arith) (omega arith) (omega arith) (search) (omega arith) (omega arith) (omega arith) (search))

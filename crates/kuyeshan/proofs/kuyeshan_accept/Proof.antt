@@ -1,6 +1,6 @@
 -- `kuyeshan::kuyeshan_accept` meets its contract.
 use native.Mathlib.Omega.{arith}
-use Rattle.casefile.specs.Case.{acceptingOf}
+use Rattle.casefile.specs.Answers.{acceptingOf}
 use Rattle.kuyeshan.proofs.AnswerLaws.{accept-none, accept-refused}
 use Rattle.kuyeshan.proofs.kuyeshan_accept.Statement.{statement}
 use Rattle.kuyeshan.proofs.kuyeshan_accept.Tie as tie
