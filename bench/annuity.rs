@@ -22,7 +22,7 @@ mod rattle {
 
     mod exported {
         unsafe extern "C" {
-            pub fn annuity_bench_life_annuity(
+            pub fn bench_annuity_life_annuity(
                 numbers: *const u32,
                 numbers_len: usize,
                 r: usize,
@@ -30,7 +30,7 @@ mod rattle {
                 out: *mut u64,
                 out_len: usize,
             ) -> bool;
-            pub fn annuity_bench_pay_annuity(
+            pub fn bench_annuity_pay_annuity(
                 numbers: *const u32,
                 numbers_len: usize,
                 r: usize,
@@ -44,12 +44,12 @@ mod rattle {
 
     pub fn life_annuity(t: &Table, out: &mut Factors) -> bool {
         let n = &t.numbers;
-        unsafe { exported::annuity_bench_life_annuity(n.as_ptr(), n.len(), t.r, t.i, out.as_mut_ptr(), out.len()) }
+        unsafe { exported::bench_annuity_life_annuity(n.as_ptr(), n.len(), t.r, t.i, out.as_mut_ptr(), out.len()) }
     }
 
     pub fn pay_annuity(t: &Table, out: &mut Factors) -> bool {
         let n = &t.numbers;
-        unsafe { exported::annuity_bench_pay_annuity(n.as_ptr(), n.len(), t.r, t.i, t.r, out.as_mut_ptr(), out.len()) }
+        unsafe { exported::bench_annuity_pay_annuity(n.as_ptr(), n.len(), t.r, t.i, t.r, out.as_mut_ptr(), out.len()) }
     }
 }
 

@@ -17,20 +17,20 @@ mod rattle {
 
     mod exported {
         unsafe extern "C" {
-            pub fn rounding_bench_mul_div_nearest(a: u64, b: u64, d: u64) -> u64;
-            pub fn rounding_bench_mul_mul_div_nearest(a: u64, b: u64, c: u64, d: u64) -> u64;
+            pub fn bench_rounding_mul_div_nearest(a: u64, b: u64, d: u64) -> u64;
+            pub fn bench_rounding_mul_mul_div_nearest(a: u64, b: u64, c: u64, d: u64) -> u64;
         }
     }
 
     /// a * b / d, rounded. Its `requires` asks that d is above 0 and that the answer fits a word. `Input::new`, which
     /// makes every input, asserts the first, and the second of a * b * c with a c of 1 or more.
     pub fn mul_div_nearest(x: &Input) -> u64 {
-        unsafe { exported::rounding_bench_mul_div_nearest(x.a, x.b, x.d) }
+        unsafe { exported::bench_rounding_mul_div_nearest(x.a, x.b, x.d) }
     }
 
     /// a * b * c / d, rounded. Its `requires` asks the same, of a * b * c: just what `Input::new` asserts.
     pub fn mul_mul_div_nearest(x: &Input) -> u64 {
-        unsafe { exported::rounding_bench_mul_mul_div_nearest(x.a, x.b, x.c, x.d) }
+        unsafe { exported::bench_rounding_mul_mul_div_nearest(x.a, x.b, x.c, x.d) }
     }
 }
 

@@ -1,7 +1,7 @@
-"""The annuity factors of RULES section 8, as tests/oracle.py works them, held to crates/annuity_factors.
+"""The annuity factors of RULES section 8, as tests/oracle.py works them, held to crates/test_annuity_factors.
 
-    python3 tests/annuity_factors.py --write    writes stdin and stdout of crates/annuity_factors
-    python3 tests/annuity_factors.py --check    runs target/bin/annuity_factors on generated tables and compares
+    python3 tests/annuity_factors.py --write    writes stdin and stdout of crates/test_annuity_factors
+    python3 tests/annuity_factors.py --check    runs target/bin/test_annuity_factors on generated tables and compares
 
 A case is the interest i, the ages r and e, the payments m, and the rows. It goes to the program as bytes, a number's
 little end first, and the program answers with a line for each of A(15..120), G(15..r), T(15..e,e), Z(15..e,e), C(m).
@@ -18,8 +18,8 @@ import commands
 from oracle import AGES, FIRST, LAST, MILLION, Factors, certain, nearest, short_table, table
 
 ROOT = Path(__file__).parent.parent
-CRATE = ROOT / 'crates' / 'annuity_factors'
-PROGRAM = ROOT / 'target' / 'bin' / 'annuity_factors'
+CRATE = ROOT / 'crates' / 'test_annuity_factors'
+PROGRAM = ROOT / 'target' / 'bin' / 'test_annuity_factors'
 
 
 class Case:

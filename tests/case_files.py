@@ -1,7 +1,7 @@
-"""Case files, good and damaged: the program case_answers held to tests/case_oracle.py.
+"""Case files, good and damaged: the program test_case_answers held to tests/case_oracle.py.
 
-    python3 tests/case_files.py --write    writes stdin and stdout of crates/case_answers
-    python3 tests/case_files.py --check    runs target/bin/case_answers on every file and compares
+    python3 tests/case_files.py --write    writes stdin and stdout of crates/test_case_answers
+    python3 tests/case_files.py --check    runs target/bin/test_case_answers on every file and compares
 
 A file goes to the program after its length in 4 bytes, the little end first. The program answers with two lines: what
 reading says of it, and what accepting says, with what it hands on.
@@ -18,8 +18,8 @@ from case_oracle import Refused, accepting, reading, walk
 from oracle import AGES, FIRST, LAST, short_table
 
 ROOT = Path(__file__).parent.parent
-CRATE = ROOT / 'crates' / 'case_answers'
-PROGRAM = ROOT / 'target' / 'bin' / 'case_answers'
+CRATE = ROOT / 'crates' / 'test_case_answers'
+PROGRAM = ROOT / 'target' / 'bin' / 'test_case_answers'
 PRIME = 1000003
 READING = {1, 2, 3, 4, 10, 20, 27}
 ACCEPTING = READING | {11, 12, 14, 15, 21, 22, 23, 24, 25}

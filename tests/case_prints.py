@@ -1,7 +1,7 @@
-"""What is printed of a case file into buffers of every length: the program case_prints held to tests/value_oracle.py.
+"""What is printed of a case file into buffers of every length: the program test_case_prints held to tests/value_oracle.py.
 
-    python3 tests/case_prints.py --write    writes stdin and stdout of crates/case_prints
-    python3 tests/case_prints.py --check    runs target/bin/case_prints on files and buffers, and compares
+    python3 tests/case_prints.py --write    writes stdin and stdout of crates/test_case_prints
+    python3 tests/case_prints.py --check    runs target/bin/test_case_prints on files and buffers, and compares
 
 The program answers with a line, and then with the bytes of the buffer and of what follows it (tests/rooms.py).
 """
@@ -15,8 +15,8 @@ from rooms import buffer, files_with_rooms, given, outcome, rooms, small
 from value_oracle import lines
 
 ROOT = Path(__file__).parent.parent
-CRATE = ROOT / 'crates' / 'case_prints'
-PROGRAM = ROOT / 'target' / 'bin' / 'case_prints'
+CRATE = ROOT / 'crates' / 'test_case_prints'
+PROGRAM = ROOT / 'target' / 'bin' / 'test_case_prints'
 
 
 def answer(case, room):

@@ -1,11 +1,11 @@
 """Rule 6.4, that a rounding divides once: counted in the compiled code.
 
-    python3 tests/divisions.py --check    builds the archive of rounding_bench, and counts in it and in that of the library,
+    python3 tests/divisions.py --check    builds the archive of bench_rounding, and counts in it and in that of the library,
                                           which embed/run builds
 
 A contract says what a function gives, and not how often it divides, so the machine's instructions are read. The count of
 a function is the most division instructions on any way through it, with what it calls. It must be 1 for each rounding,
-as rounding_bench exports it, and at most 1 for each function of `rounding` that stands by itself in the library; where
+as bench_rounding exports it, and at most 1 for each function of `rounding` that stands by itself in the library; where
 the compiler has put a rounding into another function, there is none to count. A second division instruction fails the
 test, and so do one in a loop, and a jump or a call that can't be followed. The counting is tried first on code of which
 the count is known, and on an export that rounds twice.
@@ -203,18 +203,18 @@ def roundings():
 def check():
     said(ROOT / 'bin' / 'need', 'objdump', 'binutils')
     try_known()
-    said('rt', 'staticlib', 'rounding_bench', cwd=ROOT)
-    exported = functions_of(ARCHIVES / 'librounding_bench.a')
-    hold(exported, 'rounding_bench_rounded_twice', [2])
+    said('rt', 'staticlib', 'bench_rounding', cwd=ROOT)
+    exported = functions_of(ARCHIVES / 'libbench_rounding.a')
+    hold(exported, 'bench_rounding_rounded_twice', [2])
     for name in roundings():
-        hold(exported, f'rounding_bench_{name}', [1])
+        hold(exported, f'bench_rounding_{name}', [1])
     shipped = functions_of(ARCHIVES / 'libkuyeshan.a')
     alone = [name for name in shipped if name.startswith('rounding::')]
     for name in alone:
         hold(shipped, name, [0, 1])
     if not roundings() or not alone:
         sys.exit('divisions: there is no rounding to count, or none in the library')
-    counts = [f'{name} {instructions(exported, f"rounding_bench_{name}")}' for name in roundings()]
+    counts = [f'{name} {instructions(exported, f"bench_rounding_{name}")}' for name in roundings()]
     print(f'at most one division on any way through a rounding, and in the library through {", ".join(alone)}; '
           f'division instructions in all: {", ".join(counts)}')
 

@@ -1,7 +1,7 @@
-"""The figures of lone members, handed in as plain values: the program member_figures held to tests/oracle.py.
+"""The figures of lone members, handed in as plain values: the program test_member_figures held to tests/oracle.py.
 
-    python3 tests/member_figures.py --write    writes stdin and stdout of crates/member_figures
-    python3 tests/member_figures.py --check    runs target/bin/member_figures on generated members and compares
+    python3 tests/member_figures.py --write    writes stdin and stdout of crates/test_member_figures
+    python3 tests/member_figures.py --check    runs target/bin/test_member_figures on generated members and compares
 
 A case is a plan, its rows and a member. It goes to the program as bytes, a number's little end first, and the program
 answers with three lines: what accepting the plan says, what accepting the member says, and its figures in cents, or the
@@ -27,8 +27,8 @@ from oracle import (AB, AGES, CAREER, CD, CP, FIGURES, FINAL, FIRST, FLAT, FORMU
                     exact_costs, nearest, refusal, refusal_of_plan, rounded_costs, sharp_limit, short_table, stray, table)
 
 ROOT = Path(__file__).parent.parent
-CRATE = ROOT / 'crates' / 'member_figures'
-PROGRAM = ROOT / 'target' / 'bin' / 'member_figures'
+CRATE = ROOT / 'crates' / 'test_member_figures'
+PROGRAM = ROOT / 'target' / 'bin' / 'test_member_figures'
 OF_PLAN = {10, 11, 12, 14, 15}
 REFUSALS = OF_PLAN | {21, 22, 23, 24, 25}
 

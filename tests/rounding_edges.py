@@ -1,7 +1,7 @@
-"""What the program rounding_edges must write, worked out with Python's own integers.
+"""What the program test_rounding_edges must write, worked out with Python's own integers.
 
     python3 tests/rounding_edges.py            writes the text
-    python3 tests/rounding_edges.py --check    compares it with crates/rounding_edges/stdout
+    python3 tests/rounding_edges.py --check    compares it with crates/test_rounding_edges/stdout
 
 A line has its factors and its divisor d; then the two words of the factors' product, where it fits two words; then
 quotient and remainder, where the quotient fits one; and then the rounded quotient, where that fits one. A line of two
@@ -68,10 +68,10 @@ def check():
     wanted = {(2, *two, odd) for two in ((1, 1), (2, 1), (2, 2)) for odd in (0, 1)} | {(3, 2, 1, 0), (3, 2, 1, 1)}
     if not wanted <= set(halves()):
         sys.exit(f'rounding_edges: there are no halves of {wanted - set(halves())}')
-    stored = Path(__file__).parent.parent / 'crates' / 'rounding_edges' / 'stdout'
+    stored = Path(__file__).parent.parent / 'crates' / 'test_rounding_edges' / 'stdout'
     if stored.read_text() != text():
-        sys.exit('rounding_edges: crates/rounding_edges/stdout is not what this program makes')
-    print('rounding_edges: crates/rounding_edges/stdout is what this program makes')
+        sys.exit('rounding_edges: crates/test_rounding_edges/stdout is not what this program makes')
+    print('rounding_edges: crates/test_rounding_edges/stdout is what this program makes')
 
 
 if __name__ == '__main__':

@@ -2,7 +2,7 @@
 
     python3 tests/staying.py --check
 
-The program annuity_factors shows it. At no interest, and where everybody dies at the next age, its G(k) is a thousand times
+The program test_annuity_factors shows it. At no interest, and where everybody dies at the next age, its G(k) is a thousand times
 P(k) for an age k below r, and its A(k) less S the same for an age from r on. So P is read off for rows at every edge, for
 rows whose products end in exactly half a millionth, and for drawn ones. What P must be is worked here in fractions, with
 Python's own round of them, which takes a half to the even one of two; tests/oracle.py is held to it too.

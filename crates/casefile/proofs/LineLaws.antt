@@ -3,7 +3,7 @@ use Prim.Native.Nat.{ℕ, zero, suc, _+_, _≤_, _<_}
 use mathlib.Core.Path.{_≡_, refl, sym, ap, _∙_}
 use mathlib.Core.List.{List, [], _∷_}
 use mathlib.Core.Bool.{Bool, true, false, cond}
-use lib.ListN.{length, getD, take, List·getD-eq-default}
+use lib.ListN.{length, getD, take, drop, List·getD-eq-default}
 use lib.Seq.{getD-take}
 use lib.Dec.{eqb}
 use native.Mathlib.Omega.{arith}
@@ -12,8 +12,8 @@ use Rattle.fields.specs.declared.lines.Line.{Line}
 use Rattle.fields.specs.declared.lines.Line.the-variants.{Good, Wrong, Cut}
 use Rattle.fields.specs.Text.{bytes}
 use Rattle.fields.specs.Split.{seekOf, hasOf, uptoOf, startsOf}
-use Rattle.fields.specs.Numbers.{wholeOf, amountOf}
-use Rattle.fields.specs.Values.{Values, Held, found, misread, keyedOf, lineOf}
+use Rattle.fields.specs.Numbers.{Number, wholeOf, amountOf}
+use Rattle.fields.specs.Values.{Values, Held, found, misread, valuesOf, keyedOf, lineOf}
 use Rattle.fields.proofs.SplitLaws.{has-line, has-none, lacks}
 use Rattle.fields.proofs.KeyLaws.{starts-line}
 use Rattle.fields.proofs.AnswerLaws.{GoodLine, good-line, is-good, is-wrong, is-cut, Answers, answers-good, answers-wrong, answers-cut}
@@ -124,60 +124,67 @@ module _ (full : Bool) (s values : List ℕ) where
     told-neither is =
         (told-is is, record { member = λ e same. let z : _≡_ {A = ℕ} 0 1 = cc in absurd (omega arith); count = λ e same. let z : _≡_ {A = ℕ} 0 1 = cc in absurd (omega arith) })
 
-module _ (full : Bool) (s values : List ℕ) {b : Bool} (tested : b ≡ startsOf (bytes "member=") s) where
-  begins : startsOf (bytes "member=") (uptoOf 10 s) ≡ b
-  begins = starts-line (bytes "member=") s refl ∙ sym tested
+-- one member too many
+module _ (s values : List ℕ) {b : Bool} (tested : b ≡ startsOf (bytes "member=") s) (on : b ≡ true) {e : ℕ} (at : e ≡ seekOf 10 s) where
+  pub surplus-line : e < length s → TailAnswers true s Surplus values
+  unfolding tailOf
+  surplus-line h =
+      told-surplus true s values (has-line s at h) (rw (starts-line (bytes "member=") s refl ∙ sym tested ∙ on))
 
-  -- one member too many
-  module _ (on : b ≡ true) (no-room : full ≡ true) {e : ℕ} (at : e ≡ seekOf 10 s) where
-    pub surplus-line : e < length s → TailAnswers full s Surplus values
-    unfolding tailOf
-    surplus-line h = told-surplus full s values (has-line s at h) (rw (begins ∙ on, no-room))
+  pub surplus-cut : length s ≤ e → TailAnswers true s CutOff values
+  surplus-cut h = told-cut true s values (has-none s at h)
 
-    pub surplus-cut : length s ≤ e → TailAnswers full s CutOff values
-    surplus-cut h = told-cut full s values (has-none s at h)
+-- a member
+starts-of : (key : List ℕ) (last : List ℕ → Number) (n : ℕ) (l : List ℕ) {vs : List ℕ} → keyedOf key last n l ≡ found vs → startsOf key l ≡ true
+unfolding keyedOf
+starts-of key last n l {vs} is = pick (startsOf key l) (valuesOf last n (drop (length key) l)) is
+  where
+    pick : (b : Bool) (x : Values) → cond b x misread ≡ found vs → b ≡ true
+    pick true x e = refl
+    pick false x e = let z : _≡_ {A = ℕ} 0 1 = cc in absurd (omega arith)
 
-  -- a member
-  module _ (on : b ≡ true) (room : full ≡ false) {r : Line} (read : Answers (keyedOf (bytes "member=") amountOf 3) s r (Held (keyedOf (bytes "member=") amountOf 3 (uptoOf 10 s)) 3 values)) where
-    member-is : {x : Values} → keyedOf (bytes "member=") amountOf 3 (uptoOf 10 s) ≡ x → tailOf full (uptoOf 10 s) ≡ personMade x
-    unfolding tailOf
-    member-is is = rw (begins ∙ on, room, is)
+module _ (full : Bool) (s values : List ℕ) {r : Line} (room : full ≡ false) (read : Answers (keyedOf (bytes "member=") amountOf 3) s r (Held (keyedOf (bytes "member=") amountOf 3 (uptoOf 10 s)) 3 values)) where
+  member-is : {x : Values} → startsOf (bytes "member=") (uptoOf 10 s) ≡ true → keyedOf (bytes "member=") amountOf 3 (uptoOf 10 s) ≡ x → tailOf full (uptoOf 10 s) ≡ personMade x
+  unfolding tailOf
+  member-is on is = rw (on, room, is)
 
-    first-four : memberFrom (take 4 values) ≡ memberFrom values
-    first-four =
-        rw (getD-take 4 values 0 0 (omega arith), getD-take 4 values 1 0 (omega arith), getD-take 4 values 2 0 (omega arith), getD-take 4 values 3 0 (omega arith))
+  first-four : memberFrom (take 4 values) ≡ memberFrom values
+  first-four =
+      rw (getD-take 4 values 0 0 (omega arith), getD-take 4 values 1 0 (omega arith), getD-take 4 values 2 0 (omega arith), getD-take 4 values 3 0 (omega arith))
 
-    pub member-good : {e : ℕ} → r ≡ Good e → TailAnswers full s (Person e) values
-    member-good {e} is =
-        let g = is-good (keyedOf (bytes "member=") amountOf 3) s (read .0) is in
-        told-person full s values (g .has) (g .place) (member-is (read .1 e is .is) ∙ ap person first-four) (read .1 e is .size)
+  pub member-good : {e : ℕ} → r ≡ Good e → TailAnswers full s (Person e) values
+  member-good {e} is =
+      let g = is-good (keyedOf (bytes "member=") amountOf 3) s (read .0) is in
+      let h = read .1 e is in
+      told-person full s values (g .has) (g .place) (member-is (starts-of (bytes "member=") amountOf 3 (uptoOf 10 s) (h .is)) (h .is) ∙ ap person first-four) (h .size)
 
-    pub member-wrong : r ≡ Wrong → TailAnswers full s Neither values
-    member-wrong is =
-        let w = is-wrong (keyedOf (bytes "member=") amountOf 3) s (read .0) is in
-        told-neither full s values (w .0) (member-is (w .1))
+  pub member-wrong : {b : Bool} → r ≡ Wrong → b ≡ startsOf (bytes "member=") s → b ≡ true → TailAnswers full s Neither values
+  member-wrong is tested on =
+      let w = is-wrong (keyedOf (bytes "member=") amountOf 3) s (read .0) is in
+      told-neither full s values (w .0) (member-is (starts-line (bytes "member=") s refl ∙ sym tested ∙ on) (w .1))
 
-    pub member-cut : r ≡ Cut → TailAnswers full s CutOff values
-    member-cut is = told-cut full s values (is-cut (keyedOf (bytes "member=") amountOf 3) s (read .0) is)
+  pub member-cut : r ≡ Cut → TailAnswers full s CutOff values
+  member-cut is = told-cut full s values (is-cut (keyedOf (bytes "member=") amountOf 3) s (read .0) is)
 
-  -- the end
-  module _ (on : b ≡ false) {r : Line} (read : Answers (keyedOf (bytes "end=") wholeOf 0) s r (Held (keyedOf (bytes "end=") wholeOf 0 (uptoOf 10 s)) 0 values)) where
-    end-is : {x : Values} → keyedOf (bytes "end=") wholeOf 0 (uptoOf 10 s) ≡ x → tailOf full (uptoOf 10 s) ≡ endMade x
-    unfolding tailOf
-    end-is is = rw (begins ∙ on, is)
+-- the end
+module _ (full : Bool) (s values : List ℕ) (off-key : startsOf (bytes "member=") s ≡ false) {r : Line} (read : Answers (keyedOf (bytes "end=") wholeOf 0) s r (Held (keyedOf (bytes "end=") wholeOf 0 (uptoOf 10 s)) 0 values)) where
+  end-is : {x : Values} → keyedOf (bytes "end=") wholeOf 0 (uptoOf 10 s) ≡ x → tailOf full (uptoOf 10 s) ≡ endMade x
+  unfolding tailOf
+  end-is is = rw (starts-line (bytes "member=") s refl ∙ off-key, is)
 
-    pub end-good : {e : ℕ} → r ≡ Good e → TailAnswers full s (End e) values
-    end-good {e} is =
-        let g = is-good (keyedOf (bytes "end=") wholeOf 0) s (read .0) is in
-        told-end full s values (g .has) (g .place) (end-is (read .1 e is .is) ∙ ap end (getD-take 1 values 0 0 (omega arith))) (read .1 e is .size)
+  pub end-good : {e : ℕ} → r ≡ Good e → TailAnswers full s (End e) values
+  end-good {e} is =
+      let g = is-good (keyedOf (bytes "end=") wholeOf 0) s (read .0) is in
+      let h = read .1 e is in
+      told-end full s values (g .has) (g .place) (end-is (h .is) ∙ ap end (getD-take 1 values 0 0 (omega arith))) (h .size)
 
-    pub end-wrong : r ≡ Wrong → TailAnswers full s Neither values
-    end-wrong is =
-        let w = is-wrong (keyedOf (bytes "end=") wholeOf 0) s (read .0) is in
-        told-neither full s values (w .0) (end-is (w .1))
+  pub end-wrong : r ≡ Wrong → TailAnswers full s Neither values
+  end-wrong is =
+      let w = is-wrong (keyedOf (bytes "end=") wholeOf 0) s (read .0) is in
+      told-neither full s values (w .0) (end-is (w .1))
 
-    pub end-cut : r ≡ Cut → TailAnswers full s CutOff values
-    end-cut is = told-cut full s values (is-cut (keyedOf (bytes "end=") wholeOf 0) s (read .0) is)
+  pub end-cut : r ≡ Cut → TailAnswers full s CutOff values
+  end-cut is = told-cut full s values (is-cut (keyedOf (bytes "end=") wholeOf 0) s (read .0) is)
 
 -- ---- what such an answer says
 module _ (full : Bool) (s : List ℕ) {r : TailLine} (answered : r ≡ toldOf full s) where

@@ -10,8 +10,10 @@ use plan::Member;
 use plan::Members;
 use plan::Plan;
 ghost use mathlib.Core.Path.{_≡_};
-ghost use mathlib.Core.Bool.{true};
+ghost use mathlib.Core.Bool.{true, false};
 ghost use Prim.Native.Nat.{_+_, _≤_};
+ghost use Rattle.fields.specs.Text.{bytes};
+ghost use Rattle.fields.specs.Split.{startsOf};
 ghost use Rattle.plan.specs.Acceptance.{planRefusal, memberRefusal, planFrom};
 ghost use Rattle.walk.specs.Outcome.{settled};
 ghost use Rattle.walk.specs.Lines.{memberFrom};
@@ -35,24 +37,48 @@ fn tail_line(s: &[u8], full: bool, values: &mut Read) -> Line
     ensures { λ r. ⌜ r ≡ toldOf full (now (s .entry)) ⌝ }
     ensures { λ r. ⌜ Tails·Read full (now (s .entry)) r (now (values .exit)) ⌝ }
 {
-    if starts(s, b"member=") {
-        if full {
-            if seek(s, 10) < s.len() {
-                return Line::Surplus;
+    if full {
+        return full_line(s, values);
+    }
+    match keyed_line(s, b"member=", 3, true, values) {
+        Form::Good(e) => Line::Person(e),
+        Form::Wrong => {
+            if starts(s, b"member=") {
+                Line::Neither
+            } else {
+                end_line(s, full, values)
             }
-            return Line::Cut;
         }
-        match keyed_line(s, b"member=", 3, true, values) {
-            Form::Good(e) => Line::Person(e),
-            Form::Wrong => Line::Neither,
-            Form::Cut => Line::Cut,
+        Form::Cut => Line::Cut,
+    }
+}
+
+// A line after 1,000 members.
+fn full_line(s: &[u8], values: &mut Read) -> Line
+    ensures { λ r. ⌜ r ≡ toldOf true (now (s .entry)) ⌝ }
+    ensures { λ r. ⌜ Tails·Read true (now (s .entry)) r (now (values .exit)) ⌝ }
+{
+    if starts(s, b"member=") {
+        if seek(s, 10) < s.len() {
+            Line::Surplus
+        } else {
+            Line::Cut
         }
     } else {
-        match keyed_line(s, b"end=", 0, false, values) {
-            Form::Good(e) => Line::End(e),
-            Form::Wrong => Line::Neither,
-            Form::Cut => Line::Cut,
-        }
+        end_line(s, true, values)
+    }
+}
+
+// A line that doesn't begin as a member's.
+fn end_line(s: &[u8], full: bool, values: &mut Read) -> Line
+    requires { ⌜ startsOf (bytes "member=") (now s) ≡ false ⌝ }
+    ensures { λ r. ⌜ r ≡ toldOf full (now (s .entry)) ⌝ }
+    ensures { λ r. ⌜ Tails·Read full (now (s .entry)) r (now (values .exit)) ⌝ }
+{
+    match keyed_line(s, b"end=", 0, false, values) {
+        Form::Good(e) => Line::End(e),
+        Form::Wrong => Line::Neither,
+        Form::Cut => Line::Cut,
     }
 }
 

@@ -14,7 +14,7 @@ use Rattle.fields.specs.Split.{seekOf, hasOf, uptoOf, pastOf}
 use Rattle.fields.specs.Numbers.{Number, value, malformed, isDigit, digits, inCents, digitsOf, wholeOf, amountOf}
 use Rattle.fields.specs.Values.{placed, fieldOf}
 use Rattle.fields.proofs.SplitLaws.{off, and-true-left, lacks, after, here, cut}
-use Rattle.fields.proofs.FieldLaws.{is-digit, low-digit, high-digit, digits-off, lacks-digits}
+use Rattle.fields.proofs.FieldLaws.{digits-off, lacks-digits}
 use Rattle.fields.proofs.LineLaws.{Before10, field-is, field-before, field-not}
 
 either-none : (t : Bool) (e : ℕ) → NotField ≡ cond t (placed malformed e) NotField
@@ -103,37 +103,25 @@ module _ (i : ℕ) (s : List ℕ) {r : Field} {d p : ℕ} (read : r ≡ fieldOf 
       let place : p + 1 + 2 ≡ p + 3 = omega arith in
       wrong (λ t. absurd (h (sym (byte 2 ∙ ap (λ (k : ℕ). getD s k 0) place) ∙ t .end)))
 
-  first-off : isDigit (getD s (p + 1) 0) ≡ false → NotField ≡ fieldOf amountOf 10 i s
+  pub first-off : isDigit (getD s (p + 1) 0) ≡ false → NotField ≡ fieldOf amountOf 10 i s
   first-off e =
       let place : p + 1 + 0 ≡ p + 1 = omega arith in
       let off : isDigit (getD w 0 0) ≡ false = ap isDigit (byte 0 ∙ ap (λ (k : ℕ). getD s k 0) place) ∙ e in
       wrong (λ t. rw (t .text) (digits-off [] (getD w 0 0) (getD w 1 0 ∷ []) off))
 
-  second-off : isDigit (getD s (p + 2) 0) ≡ false → NotField ≡ fieldOf amountOf 10 i s
+  pub second-off : isDigit (getD s (p + 2) 0) ≡ false → NotField ≡ fieldOf amountOf 10 i s
   second-off e =
       let place : p + 1 + 1 ≡ p + 2 = omega arith in
       let off : isDigit (getD w 1 0) ≡ false = ap isDigit (byte 1 ∙ ap (λ (k : ℕ). getD s k 0) place) ∙ e in
       wrong (λ t. rw (t .text) (digits-off (getD w 0 0 ∷ []) (getD w 1 0) [] off))
 
-  pub first-low : getD s (p + 1) 0 < 48 → NotField ≡ fieldOf amountOf 10 i s
-  first-low h = first-off (low-digit _ h)
-
-  pub first-high : 57 < getD s (p + 1) 0 → NotField ≡ fieldOf amountOf 10 i s
-  first-high h = first-off (high-digit _ h)
-
-  pub second-low : getD s (p + 2) 0 < 48 → NotField ≡ fieldOf amountOf 10 i s
-  second-low h = second-off (low-digit _ h)
-
-  pub second-high : 57 < getD s (p + 2) 0 → NotField ≡ fieldOf amountOf 10 i s
-  second-high h = second-off (high-digit _ h)
-
   -- two digits and byte 10 after the point
-  pub amount-good : 4 ≤ length s - p → 48 ≤ getD s (p + 1) 0 → getD s (p + 1) 0 ≤ 57 → 48 ≤ getD s (p + 2) 0 → getD s (p + 2) 0 ≤ 57 → getD s (p + 3) 0 ≡ 10 → Is (d * 100 + (getD s (p + 1) 0 - 48) * 10 + (getD s (p + 2) 0 - 48)) (p + 3) ≡ fieldOf amountOf 10 i s
+  pub amount-good : 4 ≤ length s - p → isDigit (getD s (p + 1) 0) ≡ true → isDigit (getD s (p + 2) 0) ≡ true → getD s (p + 3) 0 ≡ 10 → Is (d * 100 + (getD s (p + 1) 0 - 48) * 10 + (getD s (p + 2) 0 - 48)) (p + 3) ≡ fieldOf amountOf 10 i s
   unfolding digitsOf
-  amount-good room low high low' high' end =
+  amount-good room first second end =
       let a = getD s (p + 1) 0 in
       let b = getD s (p + 2) 0 in
-      let text : digits (a ∷ b ∷ []) ≡ true = simp (is-digit a low high, is-digit b low' high') in
+      let text : digits (a ∷ b ∷ []) ≡ true = simp (first, second) in
       let parts : w ≡ a ∷ b ∷ 10 ∷ drop (p + 4) s = three (p + 1) (p + 2) (p + 3) (p + 4) s (omega arith) (omega arith) (omega arith) (omega arith) end in
       let f = after 10 (a ∷ b ∷ []) (10 ∷ drop (p + 4) s) (lacks-digits 10 (a ∷ b ∷ []) (omega arith) text) in
       let g = here 10 (drop (p + 4) s) in

@@ -18,14 +18,11 @@ use Rattle.fields.specs.Values.{placed, fieldOf}
 use Rattle.fields.proofs.SplitLaws.{and-true-left, and-true-right, and-false, lacks, After, after, here, has-lacks}
 
 -- ---- digits
-pub is-digit : (c : ℕ) → 48 ≤ c → c ≤ 57 → isDigit c ≡ true
-is-digit c low high = simp (le-leb _ _ low, le-leb _ _ high)
+pub digit-low : (c : ℕ) → isDigit c ≡ true → 48 ≤ c
+digit-low c e = leb-true _ _ (and-true-left (leb 48 c) (leb c 57) e)
 
-pub low-digit : (c : ℕ) → c < 48 → isDigit c ≡ false
-low-digit c h = simp (lt-leb _ _ h)
-
-pub high-digit : (c : ℕ) → 57 < c → isDigit c ≡ false
-high-digit c h = rw (lt-leb c 57 h) (and-false (leb 48 c))
+pub digit-high : (c : ℕ) → isDigit c ≡ true → c ≤ 57
+digit-high c e = leb-true _ _ (and-true-right (leb 48 c) (leb c 57) e)
 
 pub digits-both : (t u : List ℕ) → digits t ≡ true → digits u ≡ true → digits (t ++ u) ≡ true
 digits-both [] u e f = f
@@ -44,14 +41,14 @@ number-more (b ∷ t) m c = number-more t (m * 10 + (b - 48)) c
 pub lacks-digits : (b : ℕ) (t : List ℕ) → b < 48 → digits t ≡ true → lacks b t ≡ true
 lacks-digits b [] h e = refl
 lacks-digits b (x ∷ t) h e =
-    let low : 48 ≤ x = leb-true _ _ (and-true-left (leb 48 x) (leb x 57) (and-true-left (isDigit x) (digits t) e)) in
+    let low = digit-low x (and-true-left (isDigit x) (digits t) e) in
     simp (ne-eqb x b (λ is. omega arith)) (lacks-digits b t h (and-true-right (isDigit x) (digits t) e))
 
 -- digits write a number of as many digits
 number-small : (s : List ℕ) (n : ℕ) → digits s ≡ true → number n s < (n + 1) * 10 ^ length s
 number-small [] n e = omega arith
 number-small (b ∷ s) n e =
-    let top : b ≤ 57 = leb-true _ _ (and-true-right (leb 48 b) (leb b 57) (and-true-left (isDigit b) (digits s) e)) in
+    let top = digit-high b (and-true-left (isDigit b) (digits s) e) in
     let fits : n * 10 + (b - 48) + 1 ≤ (n + 1) * 10 = omega arith in
     rw (pow-succ' 10 (length s), ← mul-assoc (n + 1) 10 (10 ^ length s))
     (lt-of-lt-of-le (number-small s (n * 10 + (b - 48)) (and-true-right (isDigit b) (digits s) e)) (mul-le-mul-right (10 ^ length s) fits))
@@ -77,12 +74,12 @@ run-none s i =
 pub run-small : {s : List ℕ} {i j n : ℕ} (r : Run s i j n) → n < 1000000000000
 run-small r = digits-small (r .text) (r .all) (r .few) (r .writes)
 
-pub run-next : {s : List ℕ} {i j n : ℕ} (r : Run s i j n) → j < length s → 48 ≤ getD s j 0 → getD s j 0 ≤ 57 → j < i + 12 → Run s i (j + 1) (n * 10 + (getD s j 0 - 48))
-run-next {s} {i} {j} {n} r h low high room =
+pub run-next : {s : List ℕ} {i j n : ℕ} (r : Run s i j n) → j < length s → isDigit (getD s j 0) ≡ true → j < i + 12 → Run s i (j + 1) (n * 10 + (getD s j 0 - 48))
+run-next {s} {i} {j} {n} r h digit room =
     let c = getD s j 0 in
     record {
       text = r .text ++ c ∷ [];
-      all = digits-both (r .text) (c ∷ []) (r .all) (simp (is-digit c low high));
+      all = digits-both (r .text) (c ∷ []) (r .all) (simp digit);
       writes = number-more (r .text) 0 c ∙ rw (r .writes);
       split = rw (add-one, append-assoc, ← drop-cons s j 0 h) (r .split);
       long = simp length-append (omega (arith, r .long));
@@ -182,16 +179,12 @@ module _ {s : List ℕ} {i j n : ℕ} (r : Run s i j n) where
 
 -- ---- what the reader answers, byte by byte
 module _ (b : ℕ) (no-digit : b < 48) {s : List ℕ} {i j n : ℕ} (r : Run s i j n) (within : j < length s) where
-  pub field-low : getD s j 0 < 48 → (getD s j 0 ≡ b → ⊥) → NotField ≡ fieldOf wholeOf b i s
-  field-low low not-b = stop-other wholeOf b no-digit r within not-b (whole-off (r .text) (getD s j 0) (low-digit (getD s j 0) low))
+  pub field-other : isDigit (getD s j 0) ≡ false → (getD s j 0 ≡ b → ⊥) → NotField ≡ fieldOf wholeOf b i s
+  field-other off not-b = stop-other wholeOf b no-digit r within not-b (whole-off (r .text) (getD s j 0) off)
 
-  pub field-high : 57 < getD s j 0 → NotField ≡ fieldOf wholeOf b i s
-  field-high high =
-      stop-other wholeOf b no-digit r within (λ is. omega arith) (whole-off (r .text) (getD s j 0) (high-digit (getD s j 0) high))
-
-  pub field-long : 48 ≤ getD s j 0 → i + 12 ≤ j → NotField ≡ fieldOf wholeOf b i s
-  field-long low many =
-      stop-other wholeOf b no-digit r within (λ is. omega arith) (whole-long (r .text) (getD s j 0) (omega (arith, r .long)))
+  pub field-long : isDigit (getD s j 0) ≡ true → i + 12 ≤ j → NotField ≡ fieldOf wholeOf b i s
+  field-long digit many =
+      stop-other wholeOf b no-digit r within (λ is. let low = digit-low (getD s j 0) digit in omega arith) (whole-long (r .text) (getD s j 0) (omega (arith, r .long)))
 
   module _ (is : getD s j 0 ≡ b) where
     stops : {x : Number} → wholeOf (r .text) ≡ x → placed x j ≡ fieldOf wholeOf b i s

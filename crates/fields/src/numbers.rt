@@ -1,13 +1,22 @@
 // Numbers, rules 1.3 to 1.6, each read in one pass up to the byte that ends it, so that no tail is dropped.
 ghost use mathlib.Core.Path.{_≡_};
-ghost use Prim.Native.Nat.{_<_};
-ghost use Rattle.fields.specs.Numbers.{wholeOf, amountOf};
+ghost use mathlib.Core.Bool.{true};
+ghost use Prim.Native.Nat.{_≤_, _<_};
+ghost use Rattle.fields.specs.Numbers.{isDigit, wholeOf, amountOf};
 ghost use Rattle.fields.specs.Values.{fieldOf, lastOf};
 
 // A number, and the place of the byte that ends it; or none.
 pub enum Field {
     Is(u64, usize),
     NotField,
+}
+
+// A decimal digit. One function, so that LLVM makes one test of it.
+fn is_digit(c: u8) -> bool
+    ensures { λ r. ⌜ r ≡ isDigit c ⌝ }
+    ensures { λ r. ⌜ (r ≡ true → (48 ≤ c) × (c ≤ 57)) ⌝ }
+{
+    if c < 48 { false } else { c <= 57 }
 }
 
 // Rule 1.3: the whole number from place i up to the first byte b, which is no digit. A place instead of a slice, and the
@@ -20,7 +29,7 @@ pub(crate) fn field_at(s: &[u8], i: usize, b: u8) -> Field
     let mut j = i;
     while j < s.len() {
         let c = s[j];
-        if c < 48 {
+        if !is_digit(c) {
             if c != b {
                 return Field::NotField;
             }
@@ -33,9 +42,6 @@ pub(crate) fn field_at(s: &[u8], i: usize, b: u8) -> Field
                 }
             }
             return Field::Is(n, j);
-        }
-        if 57 < c {
-            return Field::NotField;
         }
         if i + 12 <= j {
             return Field::NotField;
@@ -58,16 +64,10 @@ fn amount_at(s: &[u8], i: usize) -> Field
     }
     let a = s[p + 1];
     let b = s[p + 2];
-    if a < 48 {
+    if !is_digit(a) {
         return Field::NotField;
     }
-    if 57 < a {
-        return Field::NotField;
-    }
-    if b < 48 {
-        return Field::NotField;
-    }
-    if 57 < b {
+    if !is_digit(b) {
         return Field::NotField;
     }
     if s[p + 3] != 10 {

@@ -1,9 +1,11 @@
 -- `fields::numbers::amount_at` meets its contract.
+use mathlib.Core.Path.{sym, _∙_}
 use native.Mathlib.Omega.{arith}
 use borrow.Author.Needs.{needs}
-use Rattle.fields.proofs.LineLaws.{field-is, field-small}
-use Rattle.fields.proofs.AmountLaws.{amount-none, amount-short, amount-end, first-low, first-high, second-low, second-high, amount-good}
+use borrow.Author.Tests.{not-true, not-false}
 use Rattle.fields.specs.Numbers.{wholeOf}
+use Rattle.fields.proofs.LineLaws.{field-is, field-small}
+use Rattle.fields.proofs.AmountLaws.{amount-none, amount-short, amount-end, first-off, second-off, amount-good}
 use Rattle.fields.proofs.numbers.amount_at.Statement.{statement}
 use Rattle.fields.proofs.numbers.amount_at.Tie as tie
 
@@ -18,20 +20,20 @@ amount-at-spec =
     (λ c. omega arith)
     (λ c. omega arith)
     (λ c. omega arith)
-    (λ c. first-low _ _ (c .before .before .before .before .before .before .before .field-at .ensures) (c .before .before .before .before .before .dollars .given .1) (c .if2 .taken))
-    (λ c. first-high _ _ (c .before .before .before .before .before .before .before .before .field-at .ensures) (c .before .before .before .before .before .before .dollars .given .1) (c .if3 .taken))
-    (λ c. second-low _ _ (c .before .before .before .before .before .before .before .before .before .field-at .ensures) (c .before .before .before .before .before .before .before .dollars .given .1) (c .if4 .taken))
-    (λ c. second-high _ _ (c .before .before .before .before .before .before .before .before .before .before .field-at .ensures) (c .before .before .before .before .before .before .before .before .dollars .given .1) (c .if5 .taken))
+    (λ c κs. search needs)
+    (λ c. first-off _ _ (c .before .before .before .before .before .before .before .before .field-at .ensures) (c .before .before .before .before .before .before .dollars .given .1) (sym (c .before .is-digit .ensures .0) ∙ not-true _ (c .if2 .taken)))
+    (λ c κs. search needs)
+    (λ c. second-off _ _ (c .before .before .before .before .before .before .before .before .before .before .field-at .ensures) (c .before .before .before .before .before .before .before .before .dollars .given .1) (sym (c .before .is-digit2 .ensures .0) ∙ not-true _ (c .if3 .taken)))
     (λ c. omega arith)
     (λ c. omega arith)
-    (λ c. amount-end _ _ (c .before .before .before .before .before .before .before .before .before .before .before .before .field-at .ensures) (c .before .before .before .before .before .before .before .before .before .before .dollars .given .1) (c .if6 .taken))
+    (λ c. amount-end _ _ (c .before .before .before .before .before .before .before .before .before .before .before .before .field-at .ensures) (c .before .before .before .before .before .before .before .before .before .before .dollars .given .1) (c .if4 .taken))
     (λ c. omega (arith, field-small 46 (omega arith) (λ e. omega arith) _ _ (c .before .before .before .before .before .before .before .before .before .before .before .before .field-at .ensures) (c .before .before .before .before .before .before .before .before .before .before .dollars .given .1)))
-    (λ c. search needs)
+    (λ c. omega (arith, c .before .before .before .before .before .is-digit .ensures .1 (not-false _ (c .before .before .before .before .if2 .left))))
+    (λ c. omega (arith, c .before .before .before .before .before .is-digit .ensures .1 (not-false _ (c .before .before .before .before .if2 .left))))
+    (λ c. omega (arith, c .before .before .before .before .before .is-digit .ensures .1 (not-false _ (c .before .before .before .before .if2 .left))))
+    (λ c. omega (arith, c .before .before .before .before .before .is-digit .ensures .1 (not-false _ (c .before .before .before .before .if2 .left)), field-small 46 (omega arith) (λ e. omega arith) _ _ (c .before .before .before .before .before .before .before .before .before .before .before .before .field-at .ensures) (c .before .before .before .before .before .before .before .before .before .before .dollars .given .1)))
+    (λ c. omega (arith, c .before .before .before .is-digit2 .ensures .1 (not-false _ (c .before .before .if3 .left))))
+    (λ c. omega (arith, c .before .before .before .is-digit2 .ensures .1 (not-false _ (c .before .before .if3 .left))))
+    (λ c. omega (arith, c .before .before .before .before .before .is-digit .ensures .1 (not-false _ (c .before .before .before .before .if2 .left)), c .before .before .before .is-digit2 .ensures .1 (not-false _ (c .before .before .if3 .left)), field-small 46 (omega arith) (λ e. omega arith) _ _ (c .before .before .before .before .before .before .before .before .before .before .before .before .field-at .ensures) (c .before .before .before .before .before .before .before .before .before .before .dollars .given .1)))
     (λ c. omega arith)
-    (λ c. omega arith)
-    (λ c. omega (arith, field-small 46 (omega arith) (λ e. omega arith) _ _ (c .before .before .before .before .before .before .before .before .before .before .before .before .field-at .ensures) (c .before .before .before .before .before .before .before .before .before .before .dollars .given .1)))
-    (λ c. search needs)
-    (λ c. omega arith)
-    (λ c. omega (arith, field-small 46 (omega arith) (λ e. omega arith) _ _ (c .before .before .before .before .before .before .before .before .before .before .before .before .field-at .ensures) (c .before .before .before .before .before .before .before .before .before .before .dollars .given .1)))
-    (λ c. omega arith)
-    (λ c. amount-good _ _ (c .before .before .before .before .before .before .before .before .before .before .before .before .field-at .ensures) (c .before .before .before .before .before .before .before .before .before .before .dollars .given .1) (c .before .before .before .before .before .before .before .before .if1 .left) (c .before .before .before .before .before .if2 .left) (c .before .before .before .before .if3 .left) (c .before .before .before .if4 .left) (c .before .before .if5 .left) (c .if6 .left)))
+    (λ c. amount-good _ _ (c .before .before .before .before .before .before .before .before .before .before .before .before .field-at .ensures) (c .before .before .before .before .before .before .before .before .before .before .dollars .given .1) (c .before .before .before .before .before .before .before .before .if1 .left) (sym (c .before .before .before .before .before .is-digit .ensures .0) ∙ not-false _ (c .before .before .before .before .if2 .left)) (sym (c .before .before .before .is-digit2 .ensures .0) ∙ not-false _ (c .before .before .if3 .left)) (c .if4 .left)))

@@ -1,9 +1,0 @@
--- `annuity_bench::is_sound` meets its contract.
-use borrow.Author.Needs.{needs}
-use Rattle.annuity_bench.proofs.is_sound.Statement.{statement}
-use Rattle.annuity_bench.proofs.is_sound.Tie as tie
-
-pub is-sound-spec : {M : Type 1} → statement M
-is-sound-spec =
-    tie.close (tie.spec (search needs) (search needs) (search needs) (λ c e. search needs) (search needs)
-    (λ c. search needs))

@@ -1,0 +1,22 @@
+-- `bench_annuity::bench_annuity_pay_annuity` meets its contract.
+use borrow.Author.Needs.{needs}
+use borrow.Author.Tests.{ltb-false, eqb-true, not-false}
+use native.Mathlib.Omega.{arith}
+use Rattle.bench_annuity.proofs.bench_annuity_pay_annuity.Statement.{statement}
+use Rattle.bench_annuity.proofs.bench_annuity_pay_annuity.Tie as tie
+
+pay-annuity-requires : tie.Need-pay-annuity-requires
+pay-annuity-requires c κs = (c .before .is-table .ensures (not-false _ (c .if6 .left)), omega (arith, ltb-false), omega (arith, ltb-false), omega (arith, ltb-false))
+
+copy-requires : tie.Need-copy-requires
+copy-requires c κs = eqb-true _ _ (not-false _ (c .before .before .before .before .before .before .before .before .if2 .left))
+
+returns-3 : tie.Need-returns-3
+returns-3 c e =
+    let rows = c .before .before .before .before .before .before .before .rows-of .ensures in
+    rw (c .before .before .copy .ensures) (rw rows at (c .before .before .before .before .pay-annuity .ensures))
+
+pub annuity-bench-pay-annuity-spec : {M : Type 1} → statement M
+annuity-bench-pay-annuity-spec =
+    tie.close (tie.spec (λ c e. search needs) (search needs) (search needs) (λ c e. search needs) pay-annuity-requires
+    copy-requires (search needs) returns-3)

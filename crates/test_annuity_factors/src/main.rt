@@ -1,0 +1,123 @@
+// Reads cases from standard input, one after another, and writes the factors of each: A, G, T, Z and C, a line for each
+// letter. A case is bytes, a number's little end first: the interest i in 2, then r, e and m in 1 each, then for each
+// age 15 to 120 its death, withdrawal, disability and weight in 4 each. A case that the annuity functions do not take
+// is skipped. What it must write was made by another program, tests/test_annuity_factors.py.
+use libc::STDIN_FILENO;
+use libc::STDOUT_FILENO;
+ghost use mathlib.Core.Bool.{true};
+ghost use mathlib.Core.Path.{_≡_};
+ghost use Prim.Native.Nat.{_+_, _≤_, _<_};
+ghost use Rattle.test_annuity_factors.specs.Case.{Case};
+
+// How many bytes a case has.
+const SIZE: usize = 1701;
+
+// The place of the first row.
+const ROWS: usize = 5;
+
+// A proved loop has to end, and nothing says that the input does: no run uses up these turns.
+fn main() {
+    let mut turns = u64::MAX;
+    while turns > 0 && case() {
+        turns -= 1;
+    }
+}
+
+// Reads a case and answers it. False where the input ends.
+fn case() -> bool {
+    let mut bytes = [0u8; SIZE];
+    if io::read_full(STDIN_FILENO, &mut bytes) < SIZE {
+        return false;
+    }
+    answer(&bytes);
+    true
+}
+
+fn answer(bytes: &[u8; SIZE]) {
+    let i = wide(bytes[0]) + 256 * wide(bytes[1]);
+    let r = age(bytes[2]);
+    let e = age(bytes[3]);
+    let m = wide(bytes[4]);
+    write(rows_of(bytes), i, r, e, m);
+}
+
+fn write(rows: [[u32; 4]; 106], i: u64, r: usize, e: usize, m: u64) {
+    if is_case(rows, i, r, e, m) {
+        factors(rows, i, r, e, m);
+    } else {
+        io::write_all(STDOUT_FILENO, b"skipped\n");
+    }
+}
+
+fn is_case(rows: [[u32; 4]; 106], i: u64, r: usize, e: usize, m: u64) -> bool
+    ensures { λ t. ⌜ (t ≡ true → Case rows i r e m) ⌝ }
+{
+    if i > 2000 || m > 40 || r < 15 || r > 120 || e < 15 || e > 120 {
+        return false;
+    }
+    bench_annuity::is_table(rows)
+}
+
+fn factors(rows: [[u32; 4]; 106], i: u64, r: usize, e: usize, m: u64)
+    requires { ⌜ Case rows i r e m ⌝ }
+{
+    line(b"A", annuity::life_annuity(rows, r, i), 120);
+    line(b"G", annuity::deferred_annuity(rows, r, i), r);
+    line(b"T", annuity::working_annuity(rows, r, i, e), e);
+    line(b"Z", annuity::pay_annuity(rows, r, i, e), e);
+    io::write_all(STDOUT_FILENO, b"C");
+    number(annuity::certain_annuity(i, m));
+    io::write_all(STDOUT_FILENO, b"\n");
+}
+
+// The factors of the ages up to `top`.
+fn line(letter: &[u8], factors: [u64; 106], top: usize)
+    requires { ⌜ top ≤ 120 ⌝ }
+{
+    io::write_all(STDOUT_FILENO, letter);
+    for k in 15..=top {
+        number(factors[k - 15]);
+    }
+    io::write_all(STDOUT_FILENO, b"\n");
+}
+
+fn number(n: u64) {
+    io::write_all(STDOUT_FILENO, b" ");
+    io::print_decimal(STDOUT_FILENO, n);
+}
+
+fn rows_of(bytes: &[u8; SIZE]) -> [[u32; 4]; 106] {
+    let mut rows = [[0u32; 4]; 106];
+    for j in 0..106 {
+        rows[j] = row_at(bytes, ROWS + 16 * j);
+    }
+    rows
+}
+
+fn row_at(bytes: &[u8; SIZE], at: usize) -> [u32; 4]
+    requires { ⌜ at + 16 ≤ 1701 ⌝ }
+{
+    let death = number_at(bytes, at);
+    let withdrawal = number_at(bytes, at + 4);
+    let disability = number_at(bytes, at + 8);
+    let weight = number_at(bytes, at + 12);
+    [death, withdrawal, disability, weight]
+}
+
+fn number_at(bytes: &[u8; SIZE], at: usize) -> u32
+    requires { ⌜ at + 4 ≤ 1701 ⌝ }
+{
+    let low = wide(bytes[at]) + 256 * wide(bytes[at + 1]);
+    let high = wide(bytes[at + 2]) + 256 * wide(bytes[at + 3]);
+    (low + 65_536 * high) as u32
+}
+
+fn wide(x: u8) -> u64
+    ensures { λ r. ⌜ r < 256 ⌝ }
+{
+    x as u64
+}
+
+fn age(x: u8) -> usize {
+    x as usize
+}

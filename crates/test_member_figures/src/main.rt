@@ -1,0 +1,155 @@
+// Reads cases from standard input, one after another, and writes three lines for each: what accepting the plan answers,
+// what accepting the lone member answers, and what valuing it does, `figures=` B(r), V, N and L in cents. A refusal is
+// `refused=` its number and its line. A case is bytes, a number's little end first: the plan's interest, retire, formula,
+// unit, average, method, assets and years in 8 each, then for each age 15 to 120 its death, withdrawal, disability and
+// weight in 4 each, then the member's id, entry, age and salary in 8 each. What it must write was made by another
+// program, tests/test_member_figures.py.
+use costs::Figures;
+use costs::Valuation;
+use libc::STDIN_FILENO;
+use libc::STDOUT_FILENO;
+use plan::Member;
+use plan::Plan;
+use plan::acceptance::Acceptance;
+use plan::acceptance::accept_member;
+use plan::acceptance::accept_plan;
+ghost use Prim.Native.Nat.{_+_, _≤_, _<_};
+
+// How many bytes a case has.
+const SIZE: usize = 1792;
+
+// The place of the first row.
+const ROWS: usize = 64;
+
+// The place of the member.
+const MEMBER: usize = 1760;
+
+// A proved loop has to end, and nothing says that the input does: no run uses up these turns.
+fn main() {
+    let mut turns = u64::MAX;
+    while turns > 0 && case() {
+        turns -= 1;
+    }
+}
+
+// Reads a case and answers it. False where the input ends.
+fn case() -> bool {
+    let mut bytes = [0u8; SIZE];
+    if io::read_full(STDIN_FILENO, &mut bytes) < SIZE {
+        return false;
+    }
+    answer(&bytes);
+    true
+}
+
+fn answer(bytes: &[u8; SIZE]) {
+    let p = plan_of(bytes);
+    let rows = rows_of(bytes);
+    let m = member_of(bytes);
+    accepting(accept_plan(p, rows));
+    accepting(accept_member(p, rows, m));
+    match costs::value_member(p, rows, m) {
+        Valuation::Valued(f) => figures(f),
+        Valuation::Refused(number, line) => refused(number, line),
+    }
+}
+
+fn accepting(answer: Acceptance) {
+    match answer {
+        Acceptance::Accepted => {
+            io::write_all(STDOUT_FILENO, b"accepted\n");
+        }
+        Acceptance::Refused(number, line) => refused(number, line),
+    }
+}
+
+fn figures(f: Figures) {
+    io::write_all(STDOUT_FILENO, b"figures=");
+    io::print_decimal(STDOUT_FILENO, f.benefit);
+    next(f.value);
+    next(f.cost);
+    next(f.liability);
+    io::write_all(STDOUT_FILENO, b"\n");
+}
+
+fn next(number: u64) {
+    io::write_all(STDOUT_FILENO, b",");
+    io::print_decimal(STDOUT_FILENO, number);
+}
+
+fn refused(number: u64, line: u64) {
+    io::write_all(STDOUT_FILENO, b"refused=");
+    io::print_decimal(STDOUT_FILENO, number);
+    next(line);
+    io::write_all(STDOUT_FILENO, b"\n");
+}
+
+fn plan_of(bytes: &[u8; SIZE]) -> Plan {
+    Plan {
+        interest: long_at(bytes, 0),
+        retire: long_at(bytes, 8),
+        formula: long_at(bytes, 16),
+        unit: long_at(bytes, 24),
+        average: long_at(bytes, 32),
+        method: long_at(bytes, 40),
+        assets: long_at(bytes, 48),
+        years: long_at(bytes, 56),
+    }
+}
+
+fn member_of(bytes: &[u8; SIZE]) -> Member {
+    Member {
+        id: long_at(bytes, MEMBER),
+        entry: long_at(bytes, MEMBER + 8),
+        age: long_at(bytes, MEMBER + 16),
+        salary: long_at(bytes, MEMBER + 24),
+    }
+}
+
+fn rows_of(bytes: &[u8; SIZE]) -> [[u32; 4]; 106] {
+    let mut rows = [[0u32; 4]; 106];
+    for j in 0..106 {
+        rows[j] = row_at(bytes, ROWS + 16 * j);
+    }
+    rows
+}
+
+fn row_at(bytes: &[u8; SIZE], at: usize) -> [u32; 4]
+    requires { ⌜ at + 16 ≤ 1792 ⌝ }
+{
+    let death = number_at(bytes, at);
+    let withdrawal = number_at(bytes, at + 4);
+    let disability = number_at(bytes, at + 8);
+    let weight = number_at(bytes, at + 12);
+    [death, withdrawal, disability, weight]
+}
+
+// A number of 8 bytes.
+fn long_at(bytes: &[u8; SIZE], at: usize) -> u64
+    requires { ⌜ at + 8 ≤ 1792 ⌝ }
+{
+    let low = long(number_at(bytes, at));
+    let high = long(number_at(bytes, at + 4));
+    low + 4_294_967_296 * high
+}
+
+// A number of 4 bytes.
+fn number_at(bytes: &[u8; SIZE], at: usize) -> u32
+    requires { ⌜ at + 4 ≤ 1792 ⌝ }
+{
+    let low = wide(bytes[at]) + 256 * wide(bytes[at + 1]);
+    let high = wide(bytes[at + 2]) + 256 * wide(bytes[at + 3]);
+    (low + 65_536 * high) as u32
+}
+
+fn wide(x: u8) -> u64
+    ensures { λ r. ⌜ r < 256 ⌝ }
+{
+    x as u64
+}
+
+fn long(x: u32) -> u64
+    ensures { λ r. ⌜ r < 4294967296 ⌝ }
+{
+    x as u64
+}
