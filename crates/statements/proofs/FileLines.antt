@@ -6,7 +6,7 @@ use Prim.Native.Nat.{ℕ, zero, suc, _+_, _-_, _≤_, _<_}
 use native.Mathlib.Nat.{zero-add, suc-add}
 use native.Mathlib.Omega.{arith}
 use borrow.Author.Tests.{eqb-true, lt-leb, le-leb}
-use lib.Dec.{eqb, ltb, leb, eqb·suc-zero}
+use lib.Dec.{eqb, ltb, eqb·suc-zero}
 use lib.ListN.{length, getD, length-append}
 use Rattle.fields.specs.Text.{bytes}
 use Rattle.fields.specs.Split.{hasOf, uptoOf, pastOf, startsOf}
@@ -14,19 +14,36 @@ use Rattle.fields.specs.Numbers.{amountOf}
 use Rattle.fields.specs.Values.{Values, found, misread, keyedOf}
 use Rattle.fields.proofs.SplitLaws.{off}
 use Rattle.plan.specs.declared.Member.{Member}
-use Rattle.walk.specs.Outcome.{Outcome, values, refusal}
+use Rattle.plan.specs.Refusals.{tooLarge, wrongCount}
+use Rattle.walk.specs.Outcome.{values, refusal}
 use Rattle.walk.specs.Lines.{Tail, person, end, surplus, neither, personMade, mostMembers, tailOf}
-use Rattle.walk.specs.Step.{Head, State, heading, table, people, ended, Line, wrong, right, tailLine, lineOf, step}
+use Rattle.walk.specs.Step.{Head, State, heading, table, people, ended, wrong, right, tailLine, lineOf, step}
 use Rattle.walk.specs.Walk.{Case, caseOf, closed, start, walkFrom, walkOf}
 use Rattle.walk.specs.Kept.{nobody}
 use Rattle.walk.proofs.OutcomeLaws.{no-values, values-one, then-values}
 use Rattle.walk.proofs.LineLaws.{from-line, from-end}
-use Rattle.walk.proofs.FoldLaws.{Right, walk-on}
+use Rattle.walk.proofs.FoldLaws.{walk-on}
 use Rattle.walk.proofs.StepLaws.{Sized, line-sized, full-none}
 use Rattle.walk.proofs.Theorems.{start-sized}
 use Rattle.walk.proofs.Rests.{any-ahead}
 use Rattle.casefile.specs.Answers.{acceptingOf}
 use Rattle.statements.specs.LinesOf.{linesPast, lineAt, linesBefore, firstMember}
+
+-- ---- the line after some others
+pub line-past : (n : ℕ) (s : List ℕ) → lineAt (suc n) s ≡ uptoOf 10 (linesPast n s)
+unfolding lineAt
+line-past n s = let past : suc n - 1 ≡ n = omega arith in rw past
+
+past-both : (m n : ℕ) (s : List ℕ) → linesPast (m + n) s ≡ linesPast n (linesPast m s)
+unfolding linesPast
+past-both zero n s = rw (zero-add n)
+past-both (suc m) n s = rw (suc-add m n) (past-both m n (pastOf 10 s))
+
+-- member j's line
+pub line-of-member : (j : ℕ) (s : List ℕ) → lineAt (firstMember + j) s ≡ uptoOf 10 (linesPast j (linesPast linesBefore s))
+line-of-member j s =
+    let next : firstMember + j ≡ suc (linesBefore + j) = omega arith in
+    rw next (line-past (linesBefore + j) s ∙ ap (uptoOf 10) (past-both linesBefore j s))
 
 -- ---- a walk that gives values
 -- where a line is due it is there, and the walk goes on after it
@@ -122,7 +139,7 @@ module _ (c : Case) (h : Head) (before : List Member) (s : List ℕ) where
       later m refl (rw is-next at on)
   tail-lined k full (end n) {r} {next} is line on later = pick (eqb n (length before)) refl line
     where
-      pick : (b : Bool) → eqb n (length before) ≡ b → cond b (right 0 (ended h before)) (wrong 0 4) ≡ right r next → Lined c h before s
+      pick : (b : Bool) → eqb n (length before) ≡ b → cond b (right 0 (ended h before)) (wrong 0 wrongCount) ≡ right r next → Lined c h before s
       pick true e line =
           let is-next : next ≡ ended h before = cc in
           lined-end (ends full (uptoOf 10 s) (length before) (is ∙ ap end (eqb-true n (length before) e))) (done (k + 1) h before (pastOf 10 s) c (rw is-next at on))
@@ -181,30 +198,9 @@ from-start : (s : List ℕ) (c : Case) → acceptingOf s ≡ values c → walkFr
 unfolding acceptingOf walkOf
 from-start s c = pick (ltb 65536 (length s))
   where
-    pick : (b : Bool) → cond b (refusal 1 0) (walkFrom true 1 start s) ≡ values c → walkFrom true 1 start s ≡ values c
+    pick : (b : Bool) → cond b (refusal tooLarge 0) (walkFrom true 1 start s) ≡ values c → walkFrom true 1 start s ≡ values c
     pick true e = no-values e
     pick false e = e
 
 pub files-lined : (s s' : List ℕ) (c c' : Case) → Agree linesBefore s s' → acceptingOf s ≡ values c → acceptingOf s' ≡ values c' → Alike (linesPast linesBefore s) (linesPast linesBefore s') c c'
 files-lined s s' c c' same e e' = head-same c c' linesBefore 1 start s s' start-sized (omega arith) same (from-start s c e) (from-start s' c' e')
-
--- member j's line
-pub line-past : (n : ℕ) (s : List ℕ) → lineAt (suc n) s ≡ uptoOf 10 (linesPast n s)
-unfolding lineAt
-line-past n s = let past : suc n - 1 ≡ n = omega arith in rw past
-
-past-both : (m n : ℕ) (s : List ℕ) → linesPast (m + n) s ≡ linesPast n (linesPast m s)
-unfolding linesPast
-past-both zero n s = rw (zero-add n)
-past-both (suc m) n s = rw (suc-add m n) (past-both m n (pastOf 10 s))
-
-pub line-of-member : (j : ℕ) (s : List ℕ) → lineAt (firstMember + j) s ≡ uptoOf 10 (linesPast j (linesPast linesBefore s))
-line-of-member j s =
-    let next : firstMember + j ≡ suc (linesBefore + j) = omega arith in
-    rw next (line-past (linesBefore + j) s ∙ ap (uptoOf 10) (past-both linesBefore j s))
-
-pub member-same : {m m' : Member} {line line' : List ℕ} → tailOf false line ≡ person m → tailOf false line' ≡ person m' → line ≡ line' → m ≡ m'
-member-same is is' e = of-one (sym is ∙ ap (tailOf false) e ∙ is')
-  where
-    of-one : {m m' : Member} → person m ≡ person m' → m ≡ m'
-    of-one h = cc

@@ -1,15 +1,15 @@
 -- What is printed reads back as what was printed: rule 13.4, numbers and amounts as in a case file.
 use mathlib.Core.Path.{_≡_, refl, sym, ap, _∙_}
-use mathlib.Core.Bool.{Bool, true, false, not, _&&_}
+use mathlib.Core.Bool.{Bool, true, false, not}
 use mathlib.Core.List.{List, [], _∷_, _++_, append-nil}
-use Prim.Native.Nat.{ℕ, zero, suc, _+_, _-_, _*_, _/_, _%_, _^_, _≤_, _<_}
+use Prim.Native.Nat.{ℕ, zero, suc, _+_, _/_, _%_, _^_, _≤_, _<_}
 use native.Mathlib.Nat.{pow-suc}
 use native.Mathlib.Omega.{arith}
 use lib.Dec.{ltb}
 use lib.ListN.{length, getD, length-append, List·getD-append}
 use borrow.Author.Tests.{ltb-true, ltb-false, le-leb, ne-eqb}
 use Rattle.fields.specs.Split.{hasOf, uptoOf, pastOf}
-use Rattle.fields.specs.Numbers.{value, isDigit, digits as allDigits, number, wholeForm, digitsOf, wholeOf, amountOf}
+use Rattle.fields.specs.Numbers.{value, digits as allDigits, number, wholeForm, digitsOf, wholeOf, amountOf}
 use Rattle.fields.proofs.SplitLaws.{and-false, after, here}
 use Rattle.fields.proofs.FieldLaws.{is-digit, digits-both, number-more, lacks-digits}
 use Rattle.printing.specs.Amounts.{digits, whole, amount}

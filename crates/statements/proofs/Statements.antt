@@ -10,7 +10,7 @@ use Rattle.plan.proofs.Facts.{plan-facts, member-facts}
 use Rattle.costs.specs.Demand3.{WithinLimits}
 use Rattle.costs.specs.Valuation.{methodOf, caseOf, figuresAt, figures}
 use Rattle.costs.proofs.Answers.{valued, limited, demand-3-forms, demand-3-sharp-limits}
-use Rattle.walk.specs.Outcome.{Outcome, values, refusal, andThen}
+use Rattle.walk.specs.Outcome.{values, refusal}
 use Rattle.walk.specs.Walk.{Case}
 use Rattle.walk.specs.Kept.{nobody, idBefore}
 use Rattle.walk.proofs.OutcomeLaws.{no-values, values-one, then-values}
@@ -22,7 +22,7 @@ use Rattle.valuation.specs.Answers.{fitting, valuedOf}
 use Rattle.statements.specs.LinesOf.{linesPast, lineAt, linesBefore}
 use Rattle.statements.specs.Statements.{Every-Member, Members-Are-Lines, Plan-Lines, Independence, Totals-Are-Sums, Totals-Accuracy, supplemental*, Supplemental-Accuracy}
 use Rattle.statements.proofs.LineEnds.{member-is-line, member-text, members-done}
-use Rattle.statements.proofs.FileLines.{Agree, files-lined, line-past, line-of-member, member-same}
+use Rattle.statements.proofs.FileLines.{Agree, files-lined, line-past, line-of-member}
 use Rattle.statements.proofs.LoneMember.{accepted-alone}
 use Rattle.totals.proofs.TotalLaws.{total-one, total-both}
 use Rattle.statements.proofs.TotalSums.{sums-close}
@@ -103,7 +103,7 @@ independence s s' out out' room room' j j' fits fits' agree =
     let lines' = members-are-lines s' c' (a' .1) in
     let there = lines .all j (agree .member) in
     let there' = lines' .all j' (rw (agree .same) at (agree .member)) in
-    let member = member-same (lines .each j there) (lines' .each j' there') (agree .same) in
+    let member : getD (c .members) j nobody ≡ getD (c' .members) j' nobody = cc (lines .each j there, lines' .each j' there', agree .same) in
     let f = files-lined s s' c c' before (a .1) (a' .1) in
     let plan : c .plan ≡ c' .plan = cc (f .own .is, f .other .is) in
     let rows : c .rows ≡ c' .rows = cc (f .own .is, f .other .is) in
