@@ -6,3 +6,4 @@ pub mod RowLaws
 pub mod MemberLaws
 pub mod WalkLaws
 pub mod AnswerLaws
+pub mod Arrays

@@ -38,7 +38,7 @@ sets-on : {A : Type 0} (l : List A) (i : ℕ) (vs : List A) (w : A) → sets l i
 sets-on l i [] w = let e : i + 0 ≡ i = omega arith in rw e
 sets-on l i (v ∷ vs) w = let e : i + suc (length vs) ≡ suc i + length vs = omega arith in rw e (sets-on (set l i v) (suc i) vs w)
 
-each-length : {A B : Type 0} (f : A → B) (l : List A) → length (each f l) ≡ length l
+pub each-length : {A B : Type 0} (f : A → B) (l : List A) → length (each f l) ≡ length l
 each-length f [] = refl
 each-length f (a ∷ l) = ap suc (each-length f l)
 

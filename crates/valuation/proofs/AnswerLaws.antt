@@ -17,21 +17,23 @@ use Rattle.plan.specs.declared.Plan.{Plan}
 use Rattle.plan.specs.declared.Member.{Member}
 use Rattle.plan.proofs.Facts.{member-facts}
 use Rattle.casefile.specs.declared.Accepting.the-variants.{Accepted as CaseAccepted, Refused as CaseRefused}
-use Rattle.casefile.specs.Outcome.{Outcome, values, refusal, andThen}
-use Rattle.casefile.specs.Case.{Case, AcceptedCase, nobody, acceptingOf, accepting}
+use Rattle.walk.specs.Outcome.{Outcome, values, refusal, andThen}
+use Rattle.walk.specs.Walk.{Case}
+use Rattle.walk.specs.Kept.{AcceptedCase, nobody}
+use Rattle.casefile.specs.Answers.{acceptingOf, accepting}
 use Rattle.casefile.specs.Stored.{memberAt, arrayOf, idBeforeAt, rowsAfter, membersAfter, AcceptedArrays}
-use Rattle.casefile.proofs.StoredLaws.{array-member}
-use Rattle.casefile.proofs.Accepted.{accepted-case}
+use Rattle.casefile.proofs.Arrays.{array-member, accepted-case}
 use Rattle.printing.specs.Lines.{pairLine}
 use Rattle.printing.specs.Puts.{Puts}
 use Rattle.printing.proofs.AmountLaws.{whole-most}
 use Rattle.valuation.specs.declared.Answer.the-variants.{Written, Refused}
-use Rattle.valuation.specs.declared.totals.Totals.{Totals}
-use Rattle.valuation.specs.Totals.{totals, unfunded, supplemental}
+use Rattle.totals.specs.declared.Totals.{Totals}
+use Rattle.totals.specs.Totals.{totals, unfunded, supplemental}
 use Rattle.valuation.specs.Lines.{memberLine, memberLines, planLines, printed, refusalLine}
 use Rattle.valuation.specs.Answers.{fitting, valuedOf, answer, buffer, orRefusal, programOf, Writes}
-use Rattle.valuation.specs.Worked.{membersIn, AcceptedMembers, Worked, linesIn}
-use Rattle.valuation.proofs.TotalLaws.{integer-signed}
+use Rattle.totals.specs.Worked.{membersIn, AcceptedMembers, Worked}
+use Rattle.valuation.specs.Worked.{linesIn}
+use Rattle.totals.proofs.TotalLaws.{integer-signed}
 
 -- ---- the arrays hold what is printed
 module _ (p : Plan) (rows : List (List ℕ)) where
@@ -40,7 +42,7 @@ module _ (p : Plan) (rows : List (List ℕ)) where
   lines-more [] m = append-nil (memberLine p rows m)
   lines-more (x ∷ l) m = rw (lines-more l m) (sym (append-assoc (memberLine p rows x) (memberLines p rows l) (memberLine p rows m)))
 
-  module _ (members worked : List ℕ) where
+  module _ (members worked : List (List ℕ)) where
     lines-are : (n : ℕ) → Worked p rows members worked n → linesIn members worked n ≡ memberLines p rows (membersIn members n)
     unfolding linesIn membersIn memberLines memberLine
     lines-are zero is = refl
@@ -70,7 +72,7 @@ written {old} {lines = lines} m h w =
     rw (le-leb (length lines) (length old) (omega (arith, m .ends))) (ap Written (w .ends ∙ none), w .holds ∙ at-start)
 
 -- ---- what accepting hands on
-in-array : (a : List ℕ) (l : List Member) → ((j : ℕ) → j < length l → memberAt a j ≡ getD l j nobody) → (n : ℕ) → n ≤ length l → membersIn a n ≡ take n l
+in-array : (a : List (List ℕ)) (l : List Member) → ((j : ℕ) → j < length l → memberAt a j ≡ getD l j nobody) → (n : ℕ) → n ≤ length l → membersIn a n ≡ take n l
 unfolding membersIn
 in-array a l is zero h = refl
 in-array a l is (suc n) h = rw (in-array a l is n (omega arith), is n (omega arith), take-suc l n nobody (omega arith))
@@ -80,7 +82,7 @@ pub array-members : (l : List Member) → length l ≤ 1000 → membersIn (array
 array-members l few =
     in-array (arrayOf l) l (λ j h. array-member l j h few) (length l) (omega arith) ∙ take-length l
 
-pub accepted-members : {p : Plan} {n : ℕ} {rows : List (List ℕ)} {members : List ℕ} → AcceptedArrays p n rows members → AcceptedMembers p rows members n
+pub accepted-members : {p : Plan} {n : ℕ} {rows : List (List ℕ)} {members : List (List ℕ)} → AcceptedArrays p n rows members → AcceptedMembers p rows members n
 accepted-members {p} {n} {rows} {members} a =
     record {
       plan = a .plan;
@@ -88,7 +90,7 @@ accepted-members {p} {n} {rows} {members} a =
       member = λ j h. member-facts p rows (idBeforeAt members j) (memberAt members j) (a .plan) (a .member j h);
     }
 
-valued-by : (o : Outcome Case) (room : ℕ) {p : Plan} {n : ℕ} {rows : List (List ℕ)} {members : List ℕ} (oldRows : List (List ℕ)) (oldMembers : List ℕ) → ((c : Case) → o ≡ values c → AcceptedCase c) → CaseAccepted p n ≡ accepting o → rows ≡ rowsAfter o oldRows → members ≡ membersAfter o oldMembers → fitting room (printed p rows (membersIn members n)) ≡ andThen o (λ c. fitting room (printed (c .plan) (c .rows) (c .members)))
+valued-by : (o : Outcome Case) (room : ℕ) {p : Plan} {n : ℕ} {rows : List (List ℕ)} {members : List (List ℕ)} (oldRows : List (List ℕ)) (oldMembers : List (List ℕ)) → ((c : Case) → o ≡ values c → AcceptedCase c) → CaseAccepted p n ≡ accepting o → rows ≡ rowsAfter o oldRows → members ≡ membersAfter o oldMembers → fitting room (printed p rows (membersIn members n)) ≡ andThen o (λ c. fitting room (printed (c .plan) (c .rows) (c .members)))
 valued-by (values c) room {p} {n} oldRows oldMembers is said table array =
     let terms : p ≡ c .plan = cc in
     let count : n ≡ length (c .members) = cc in
@@ -101,7 +103,7 @@ refused-by (values c) more said = let z : _≡_ {A = ℕ} 0 1 = cc in absurd (om
 refused-by (refusal n l) more said = cc
 
 module _ (s : List ℕ) (room : ℕ) where
-  pub valued-accepted : {p : Plan} {n : ℕ} {rows : List (List ℕ)} {members : List ℕ} (oldRows : List (List ℕ)) (oldMembers : List ℕ) → CaseAccepted p n ≡ accepting (acceptingOf s) → rows ≡ rowsAfter (acceptingOf s) oldRows → members ≡ membersAfter (acceptingOf s) oldMembers → fitting room (printed p rows (membersIn members n)) ≡ valuedOf room s
+  pub valued-accepted : {p : Plan} {n : ℕ} {rows : List (List ℕ)} {members : List (List ℕ)} (oldRows : List (List ℕ)) (oldMembers : List (List ℕ)) → CaseAccepted p n ≡ accepting (acceptingOf s) → rows ≡ rowsAfter (acceptingOf s) oldRows → members ≡ membersAfter (acceptingOf s) oldMembers → fitting room (printed p rows (membersIn members n)) ≡ valuedOf room s
   unfolding valuedOf
   valued-accepted oldRows oldMembers = valued-by (acceptingOf s) room oldRows oldMembers (accepted-case s)
 

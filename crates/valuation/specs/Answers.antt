@@ -5,8 +5,8 @@ use mathlib.Core.List.{List, _++_}
 use Prim.Native.Nat.{ℕ}
 use lib.Dec.{leb}
 use lib.ListN.{length, drop}
-use Rattle.casefile.specs.Outcome.{Outcome, values, refusal, andThen}
-use Rattle.casefile.specs.Case.{acceptingOf}
+use Rattle.walk.specs.Outcome.{Outcome, values, refusal, andThen}
+use Rattle.casefile.specs.Answers.{acceptingOf}
 use Rattle.valuation.specs.declared.Answer.{Answer}
 use Rattle.valuation.specs.declared.Answer.the-variants.{Written, Refused}
 use Rattle.valuation.specs.Lines.{printed, refusalLine}

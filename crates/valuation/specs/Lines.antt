@@ -7,10 +7,10 @@ use Rattle.plan.specs.declared.Plan.{Plan}
 use Rattle.plan.specs.declared.Member.{Member}
 use Rattle.costs.specs.declared.Figures.{Figures}
 use Rattle.costs.specs.Valuation.{figures}
-use Rattle.casefile.specs.Text.{bytes}
+use Rattle.fields.specs.Text.{bytes}
 use Rattle.printing.specs.Lines.{amountsLine, signedLine, pairLine}
-use Rattle.valuation.specs.declared.totals.Totals.{Totals}
-use Rattle.valuation.specs.Totals.{totals, unfunded, supplemental}
+use Rattle.totals.specs.declared.Totals.{Totals}
+use Rattle.totals.specs.Totals.{totals, unfunded, supplemental}
 
 -- rule 13.2, a member's line: the id, and B(r), V, N, L
 unfoldable pub figuresLine : (id : ℕ) → Figures → List ℕ

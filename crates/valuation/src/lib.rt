@@ -1,14 +1,11 @@
-// The valuation of a whole plan: RULES sections 11 and 13. totals.rt works the figures of all members and sums them,
-// lines.rt writes the lines; specs/ has the totals, the lines and the answers. The entries are value_case, refusal_line
+// The valuation of a whole plan, as text: RULES section 13. lines.rt writes the lines; specs/ has the lines and the
+// answers; the figures and their totals are the crate totals'. The entries are value_case, refusal_line
 // and print_case here, and those of the layers below, which are passed on: read_case, accept_case, accept_plan,
 // accept_member, value_member. None has a `requires`.
 mod lines;
-mod totals;
 
 use crate::lines::write_lines;
-use crate::totals::supplemental_of;
-use crate::totals::unfunded_of;
-use crate::totals::work;
+use annuity::Rows;
 pub use casefile::Accepting;
 pub use casefile::Reading;
 pub use casefile::accept_case;
@@ -17,19 +14,23 @@ pub use costs::Figures;
 pub use costs::Valuation;
 pub use costs::value_member;
 pub use plan::Member;
+use plan::Members;
 pub use plan::Plan;
 pub use plan::acceptance::Acceptance;
 pub use plan::acceptance::accept_member;
 pub use plan::acceptance::accept_plan;
 use printing::lines::write_pair_line;
+use totals::supplemental_of;
+use totals::unfunded_of;
+use totals::work;
 ghost use mathlib.Core.Path.{_≡_};
 ghost use Prim.Native.Nat.{_≤_};
 ghost use lib.ListN.{length};
-ghost use Rattle.casefile.specs.Outcome.{refusal};
+ghost use Rattle.walk.specs.Outcome.{refusal};
 ghost use Rattle.printing.specs.Puts.{Puts};
 ghost use Rattle.valuation.specs.Lines.{printed, refusalLine};
 ghost use Rattle.valuation.specs.Answers.{fitting, valuedOf, answer, buffer, orRefusal, programOf, Writes};
-ghost use Rattle.valuation.specs.Worked.{AcceptedMembers, membersIn};
+ghost use Rattle.totals.specs.Worked.{AcceptedMembers, membersIn};
 
 // The answer of an entry that writes: how many bytes, or a refusal's number and line.
 pub enum Answer {
@@ -43,7 +44,7 @@ pub fn value_case(case: &[u8], out: &mut [u8]) -> Answer
     ensures { λ _. ⌜ now (out .exit) ≡ buffer (valuedOf (length (now (out .entry))) (now (case .entry))) (now (out .entry)) ⌝ }
 {
     let mut rows = [[0u32; 4]; 106];
-    let mut members = [0u64; 4000];
+    let mut members = [[0u64; 4]; 1000];
     match accept_case(case, &mut rows, &mut members) {
         Accepting::Accepted(p, count) => value_accepted(p, rows, &members, count, out),
         Accepting::Refused(number, line) => Answer::Refused(number, line),
@@ -51,19 +52,13 @@ pub fn value_case(case: &[u8], out: &mut [u8]) -> Answer
 }
 
 // Values an accepted case.
-fn value_accepted(
-    p: Plan,
-    rows: [[u32; 4]; 106],
-    members: &[u64; 4000],
-    count: u64,
-    out: &mut [u8],
-) -> Answer
+fn value_accepted(p: Plan, rows: Rows, members: &Members, count: u64, out: &mut [u8]) -> Answer
     requires { ⌜ AcceptedMembers p rows (now members) count ⌝ }
     ensures { λ r. ⌜ r ≡ answer (fitting (length (now (out .entry))) (printed p rows (membersIn (now (members .entry)) count))) ⌝ }
     ensures { λ _. ⌜ now (out .exit) ≡ buffer (fitting (length (now (out .entry))) (printed p rows (membersIn (now (members .entry)) count))) (now (out .entry)) ⌝ }
 {
     let n = count as usize;
-    let mut worked = [0u64; 4000];
+    let mut worked = [[0u64; 4]; 1000];
     let totals = work(p, rows, members, n, &mut worked);
     let unfunded = unfunded_of(totals.liability, p.assets);
     let supplemental = supplemental_of(unfunded, p.interest, p.years);

@@ -1,13 +1,15 @@
 // The lines of the members and of the plan, rule 13.2.
-use crate::totals::Totals;
-use crate::totals::figures_at;
-use crate::totals::member_at;
 use costs::Figures;
+use plan::Members;
 use printing::lines::write_end;
 use printing::lines::write_field;
 use printing::lines::write_signed_line;
 use printing::lines::write_start;
 use rounding::Signed;
+use totals::Totals;
+use totals::Worked;
+use totals::figures_at;
+use totals::member_at;
 ghost use mathlib.Core.List.{_++_};
 ghost use Prim.Native.Nat.{_+_, _^_, _≤_, _<_};
 ghost use Rattle.rounding.specs.Signed.{integer};
@@ -27,12 +29,7 @@ fn write_member_line(out: &mut [u8], at: usize, id: u64, f: Figures) -> usize
 }
 
 // Writes the members' lines, from the start on.
-fn write_member_lines(
-    out: &mut [u8],
-    members: &[u64; 4000],
-    worked: &[u64; 4000],
-    count: usize,
-) -> usize
+fn write_member_lines(out: &mut [u8], members: &Members, worked: &Worked, count: usize) -> usize
     requires { ⌜ count ≤ 1000 ⌝ }
     ensures { λ r. ⌜ Puts (now (out .entry)) 0 (linesIn (now (members .entry)) (now (worked .entry)) count) (now (out .exit)) r ⌝ }
     ensures { λ r. ⌜ r ≤ 133000 ⌝ }
@@ -69,8 +66,8 @@ fn write_plan_lines(
 // Writes all lines of an accepted case.
 pub(crate) fn write_lines(
     out: &mut [u8],
-    members: &[u64; 4000],
-    worked: &[u64; 4000],
+    members: &Members,
+    worked: &Worked,
     count: u64,
     t: Totals,
     unfunded: Signed,

@@ -1,8 +1,8 @@
--- `valuation::totals::supplemental_of` meets its contract.
+-- `totals::supplemental_of` meets its contract.
 use borrow.Author.Needs.{needs}
-use Rattle.valuation.proofs.TotalLaws.{payment-fits}
-use Rattle.valuation.proofs.totals.supplemental_of.Statement.{statement}
-use Rattle.valuation.proofs.totals.supplemental_of.Tie as tie
+use Rattle.totals.proofs.TotalLaws.{payment-fits}
+use Rattle.totals.proofs.supplemental_of.Statement.{statement}
+use Rattle.totals.proofs.supplemental_of.Tie as tie
 
 certain-annuity-requires : tie.Need-certain-annuity-requires
 certain-annuity-requires c κs = search needs

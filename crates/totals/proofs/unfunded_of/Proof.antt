@@ -1,8 +1,8 @@
--- `valuation::totals::unfunded_of` meets its contract.
+-- `totals::unfunded_of` meets its contract.
 use borrow.Author.Needs.{needs}
-use Rattle.valuation.proofs.TotalLaws.{overfunded, underfunded}
-use Rattle.valuation.proofs.totals.unfunded_of.Statement.{statement}
-use Rattle.valuation.proofs.totals.unfunded_of.Tie as tie
+use Rattle.totals.proofs.TotalLaws.{overfunded, underfunded}
+use Rattle.totals.proofs.unfunded_of.Statement.{statement}
+use Rattle.totals.proofs.unfunded_of.Tie as tie
 
 sub-t5 : tie.Need-sub-t5
 sub-t5 c = search needs

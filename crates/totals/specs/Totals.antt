@@ -9,7 +9,7 @@ use Rattle.plan.specs.declared.Plan.{Plan}
 use Rattle.plan.specs.declared.Member.{Member}
 use Rattle.costs.specs.declared.Figures.{Figures}
 use Rattle.costs.specs.Valuation.{figures}
-use Rattle.valuation.specs.declared.totals.Totals.{Totals}
+use Rattle.totals.specs.declared.Totals.{Totals}
 
 -- an exact fraction of each member, summed over all of them
 unfoldable pub total* : (Member → Ratio) → List Member → Ratio

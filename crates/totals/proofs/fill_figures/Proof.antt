@@ -1,0 +1,46 @@
+-- `totals::fill_figures` meets its contract. The loop's invariant: the figures of the members so far stand in the array.
+use mathlib.Core.Path.{_≡_, refl, ap, subst, _∙_}
+use mathlib.Core.List.{List}
+use Prim.Native.Nat.{ℕ, _-_, _≤_}
+use lib.ListN.{length, length-set}
+use native.Mathlib.Omega.{arith}
+use borrow.Author.Needs.{needs}
+use Rattle.costs.specs.Valuation.{figures}
+use Rattle.totals.specs.Worked.{Worked}
+use Rattle.totals.proofs.TotalLaws.{worked-next}
+use Rattle.totals.proofs.fill_figures.Statement.{statement}
+use Rattle.totals.proofs.fill_figures.Tie as tie
+
+abbrev Inv-loop : tie.InvT-loop
+Inv-loop p rows members count worked₀ j₀ worked j =
+    (j ≤ count) × (length worked ≡ 1000) × Worked p rows members worked j
+
+abbrev μ-loop : tie.MeasureT-loop
+μ-loop p rows members count worked₀ j₀ worked j = count - j
+
+again : tie.Need-loop-again Inv-loop μ-loop
+again c =
+    let a = c .before .before .before .before .before .args in
+    let l = c .before .before .before .loop in
+    let is = c .figures-of .ensures ∙ ap (figures (a .p) (a .rows)) (c .before .member-at .ensures) in
+    (omega arith, length-set (l .worked) (l .j) _ ∙ l .inv .1, worked-next (a .p) (a .rows) (a .members .now) (l .worked) (l .j) _ (l .inv .2) is (omega (arith, l .inv .1, c .before .before .before .before .before .pre .few)))
+
+returns : tie.Need-returns Inv-loop μ-loop
+returns c =
+    let a = c .before .before .before .args in
+    let l = c .before .loop in
+    let all : l .j ≡ a .count = omega arith in
+    subst (λ (n : ℕ). Worked (a .p) (a .rows) (a .members .now) (l .worked) n) all (l .inv .2)
+
+pub fill-figures-spec : {M : Type 1} → statement M
+fill-figures-spec =
+    tie.close
+    (tie.spec Inv-loop μ-loop (λ c. (omega arith, refl, λ j h. absurd (omega arith)))
+    (λ c κs. omega (arith, c .before .before .before .pre .few))
+    (λ c κs. rw (c .member-at .ensures) (c .before .before .before .before .pre .member (c .before .before .loop .j) (c .before .loop-test .taken)))
+    (λ c. search needs)
+    (λ c. omega (arith, c .before .before .before .loop .inv .1, c .before .before .before .before .before .pre .few))
+    (λ c. search needs)
+    (λ c. search needs)
+    again
+    returns)

@@ -1,0 +1,55 @@
+-- What the code keeps between its steps: the figures of the members, in an array as accepting keeps the members.
+use mathlib.Core.Path.{_≡_}
+use mathlib.Core.List.{List, [], _∷_, _++_}
+use Prim.Native.Nat.{ℕ, zero, suc, _+_, _≤_, _<_}
+use lib.ListN.{getD}
+use Rattle.plan.specs.declared.Plan.{Plan}
+use Rattle.plan.specs.declared.Member.{Member}
+use Rattle.plan.specs.Acceptance.{planRefusal, AcceptedMember}
+use Rattle.costs.specs.declared.Figures.{Figures}
+use Rattle.costs.specs.Valuation.{figures}
+use Rattle.walk.specs.Lines.{mostMembers}
+use Rattle.casefile.specs.Stored.{memberAt}
+use Rattle.totals.specs.declared.Totals.{Totals}
+
+-- the first n members of an array
+unfoldable pub membersIn : List (List ℕ) → ℕ → List Member
+membersIn a zero = []
+membersIn a (suc n) = membersIn a n ++ (memberAt a n ∷ [])
+
+-- an accepted plan, and the n members of an array that the rules accept
+pub record AcceptedMembers (p : Plan) (rows members : List (List ℕ)) (n : ℕ) : Type 0 where
+  pub plan : planRefusal p rows ≡ 0
+  pub few : n ≤ mostMembers
+  pub member : (j : ℕ) → j < n → AcceptedMember p rows (memberAt members j)
+
+-- the figures at place j
+abbrev pub figuresFrom : List ℕ → Figures
+figuresFrom f = record { benefit = getD f 0 0; value = getD f 1 0; cost = getD f 2 0; liability = getD f 3 0 }
+
+abbrev pub figuresIn : List (List ℕ) → ℕ → Figures
+figuresIn a j = figuresFrom (getD a j [])
+
+-- the figures of the first n members stand in the array
+abbrev pub Worked : Plan → (rows members worked : List (List ℕ)) → ℕ → Type 0
+Worked p rows members worked n = (j : ℕ) → j < n → figuresIn worked j ≡ figures p rows (memberAt members j)
+
+-- rule 11.1: a figure of the first n, summed; and the sums of V, N and L
+unfoldable pub sumIn : (Figures → ℕ) → (worked : List (List ℕ)) → ℕ → ℕ
+sumIn figure worked zero = 0
+sumIn figure worked (suc n) = sumIn figure worked n + figure (figuresIn worked n)
+
+abbrev pub sumsIn : (worked : List (List ℕ)) → ℕ → Totals
+sumsIn worked n =
+    record {
+      value = sumIn (λ f. f .value) worked n;
+      cost = sumIn (λ f. f .cost) worked n;
+      liability = sumIn (λ f. f .liability) worked n;
+    }
+
+-- figures small enough for 1,000 of them to be summed in a word; and the first n are
+abbrev pub Small : Figures → Type 0
+Small f = (f .value ≤ 7100000050) × (f .cost ≤ 7100000050) × (f .liability ≤ 7100000050)
+
+abbrev pub SmallIn : (worked : List (List ℕ)) → ℕ → Type 0
+SmallIn worked n = (j : ℕ) → j < n → Small (figuresIn worked j)
