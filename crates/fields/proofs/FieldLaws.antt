@@ -33,7 +33,7 @@ pub digits-off : (t : List ℕ) (c : ℕ) (u : List ℕ) → isDigit c ≡ false
 digits-off [] c u e = rw e
 digits-off (b ∷ t) c u e = rw (digits-off t c u e) (and-false (isDigit b))
 
-number-more : (t : List ℕ) (m c : ℕ) → number m (t ++ c ∷ []) ≡ number m t * 10 + (c - 48)
+pub number-more : (t : List ℕ) (m c : ℕ) → number m (t ++ c ∷ []) ≡ number m t * 10 + (c - 48)
 number-more [] m c = refl
 number-more (b ∷ t) m c = number-more t (m * 10 + (b - 48)) c
 

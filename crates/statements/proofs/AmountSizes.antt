@@ -21,9 +21,10 @@ use Rattle.plan.proofs.Facts.{all-kept, plan-facts, member-facts}
 use Rattle.costs.specs.declared.Figures.{Figures}
 use Rattle.costs.specs.Valuation.{figures}
 use Rattle.costs.proofs.FigureSizes.{Small, figures-small}
-use Rattle.casefile.specs.Case.{nobody, idBefore}
-use Rattle.casefile.proofs.Accepted.{accepted-case}
-use Rattle.valuation.specs.Totals.{total, unfunded, supplemental}
+use Rattle.walk.specs.Kept.{nobody, idBefore}
+use Rattle.walk.proofs.Accepted.{accepted-keeps}
+use Rattle.casefile.specs.Answers.{acceptingOf}
+use Rattle.totals.specs.Totals.{total, unfunded, supplemental}
 use Rattle.statements.specs.Statements.{Printed-Amounts-Fit}
 
 -- ---- ids
@@ -70,9 +71,9 @@ payment-size (pos n) d h = nearest-shrinks n S d (omega arith) h
 payment-size (negsuc n) d h = rw (negative-size (suc n * S) d) (nearest-shrinks (suc n) S d (omega arith) h)
 
 pub printed-amounts-fit : Printed-Amounts-Fit
-unfolding unfunded supplemental
+unfolding unfunded supplemental acceptingOf
 printed-amounts-fit s c accepted =
-    let rules = accepted-case s c accepted in
+    let rules = accepted-keeps s c accepted .1 in
     let p = c .plan in
     let rows = c .rows in
     let members = c .members in

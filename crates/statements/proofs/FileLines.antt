@@ -1,103 +1,101 @@
 -- A case file's values rest on its lines, one by one: equal lines give equal terms, rows and members.
 use mathlib.Core.Path.{_≡_, refl, sym, ap, _∙_}
 use mathlib.Core.Bool.{Bool, true, false, cond}
-use mathlib.Core.List.{List, [], _∷_}
-use Prim.Native.Nat.{ℕ, zero, suc, _+_, _-_, _<_}
-use native.Mathlib.Nat.{zero-add, add-zero, suc-add}
+use mathlib.Core.List.{List, [], _∷_, _++_, append-assoc, append-nil}
+use Prim.Native.Nat.{ℕ, zero, suc, _+_, _-_, _≤_, _<_}
+use native.Mathlib.Nat.{zero-add, suc-add}
 use native.Mathlib.Omega.{arith}
-use borrow.Author.Tests.{eqb-true}
-use lib.Dec.{eqb, eqb·suc-zero}
-use lib.ListN.{length, getD, drop}
-use Rattle.plan.specs.declared.Plan.{Plan}
+use borrow.Author.Tests.{eqb-true, lt-leb, le-leb}
+use lib.Dec.{eqb, ltb, eqb·suc-zero}
+use lib.ListN.{length, getD, length-append}
+use Rattle.fields.specs.Text.{bytes}
+use Rattle.fields.specs.Split.{hasOf, uptoOf, pastOf, startsOf}
+use Rattle.fields.specs.Numbers.{amountOf}
+use Rattle.fields.specs.Values.{Values, found, misread, keyedOf}
+use Rattle.fields.proofs.SplitLaws.{off}
 use Rattle.plan.specs.declared.Member.{Member}
-use Rattle.plan.specs.Acceptance.{memberRefusal}
-use Rattle.casefile.specs.declared.numbers.Number.{Number}
-use Rattle.casefile.specs.declared.numbers.Number.the-variants.{Value, Malformed}
-use Rattle.casefile.specs.declared.numbers.Three.{Three}
-use Rattle.casefile.specs.declared.numbers.Three.the-variants.{Found, NotThree}
-use Rattle.casefile.specs.declared.rows.RowForm.{RowForm}
-use Rattle.casefile.specs.declared.rows.RowForm.the-variants.{Rates, Wrong}
-use Rattle.casefile.specs.declared.members.Tail.{Tail}
-use Rattle.casefile.specs.declared.members.Tail.the-variants.{OfMember, OfEnd, Surplus, Neither}
-use Rattle.casefile.specs.Text.{bytes}
-use Rattle.casefile.specs.Numbers.{amountOf}
-use Rattle.casefile.specs.Fields.{threeOf, fourthOf}
-use Rattle.casefile.specs.Split.{hasOf, uptoOf, pastOf, startsOf, linesPast}
-use Rattle.casefile.specs.Outcome.{Outcome, values, refusal, prepend, passing}
-use Rattle.casefile.specs.Heading.{termOf, termRule, formulaFrom, afterTerm, headOf}
-use Rattle.casefile.specs.Rows.{rowOf, rowRule, afterRow, rowsOf}
-use Rattle.casefile.specs.Members.{memberMade, memberOf, tailOf, afterTail, membersOf}
-use Rattle.casefile.specs.Case.{Case, nobody, acceptingOf}
-use Rattle.casefile.proofs.OutcomeLaws.{no-values, values-one, passed, prepended}
-use Rattle.casefile.proofs.PartLaws.{parts}
+use Rattle.plan.specs.Refusals.{tooLarge, wrongCount}
+use Rattle.walk.specs.Outcome.{values, refusal}
+use Rattle.walk.specs.Lines.{Tail, person, end, surplus, neither, personMade, mostMembers, tailOf}
+use Rattle.walk.specs.Step.{Head, State, heading, table, people, ended, wrong, right, tailLine, lineOf, step}
+use Rattle.walk.specs.Walk.{Case, caseOf, closed, start, walkFrom, walkOf}
+use Rattle.walk.specs.Kept.{nobody}
+use Rattle.walk.proofs.OutcomeLaws.{no-values, values-one, then-values}
+use Rattle.walk.proofs.LineLaws.{from-line, from-end}
+use Rattle.walk.proofs.FoldLaws.{walk-on}
+use Rattle.walk.proofs.StepLaws.{Sized, line-sized, full-none}
+use Rattle.walk.proofs.Theorems.{start-sized}
+use Rattle.walk.proofs.Rests.{any-ahead}
+use Rattle.casefile.specs.Answers.{acceptingOf}
+use Rattle.statements.specs.LinesOf.{linesPast, lineAt, linesBefore, firstMember}
 
-pub past-both : (m n : ℕ) (s : List ℕ) → linesPast (m + n) s ≡ linesPast n (linesPast m s)
+-- ---- the line after some others
+pub line-past : (n : ℕ) (s : List ℕ) → lineAt (suc n) s ≡ uptoOf 10 (linesPast n s)
+unfolding lineAt
+line-past n s = let past : suc n - 1 ≡ n = omega arith in rw past
+
+past-both : (m n : ℕ) (s : List ℕ) → linesPast (m + n) s ≡ linesPast n (linesPast m s)
 unfolding linesPast
 past-both zero n s = rw (zero-add n)
 past-both (suc m) n s = rw (suc-add m n) (past-both m n (pastOf 10 s))
 
--- the first n lines are the same
-abbrev pub Agree : ℕ → List ℕ → List ℕ → Type 0
-Agree n s s' = (j : ℕ) → j < n → uptoOf 10 (linesPast j s) ≡ uptoOf 10 (linesPast j s')
+-- member j's line
+pub line-of-member : (j : ℕ) (s : List ℕ) → lineAt (firstMember + j) s ≡ uptoOf 10 (linesPast j (linesPast linesBefore s))
+line-of-member j s =
+    let next : firstMember + j ≡ suc (linesBefore + j) = omega arith in
+    rw next (line-past (linesBefore + j) s ∙ ap (uptoOf 10) (past-both linesBefore j s))
 
--- two outcomes that have the same values, where both have any
-abbrev pub Same : {A : Type 0} → Outcome A → Outcome A → Type 0
-Same {A} o o' = (t t' : A) → o ≡ values t → o' ≡ values t' → t ≡ t'
+-- ---- a walk that gives values
+-- where a line is due it is there, and the walk goes on after it
+record Goes (k : ℕ) (state : State) (s : List ℕ) (c : Case) : Type 0 where
+  range : ℕ
+  next : State
+  line : lineOf state (uptoOf 10 s) [] ≡ right range next
+  on : walkFrom true (k + 1) next (pastOf 10 s) ≡ values c
 
-module _ {A : Type 0} where
-  alike : (o : Outcome A) → Same o o
-  alike o t t' e e' = values-one (sym e ∙ e')
+goes : (k : ℕ) (state : State) (s : List ℕ) (c : Case) → (closed k s state ≡ values c → ⊥) → walkFrom true k state s ≡ values c → Goes k state s c
+goes k state s c due e = pick (hasOf 10 s) refl
+  where
+    pick : (b : Bool) → hasOf 10 s ≡ b → Goes k state s c
+    pick true h =
+        let a = uptoOf 10 (pastOf 10 s) in
+        let f = then-values (step true k state (uptoOf 10 s) a) _ (sym (from-line true k state s h) ∙ e) in
+        let p = walk-on true k state (uptoOf 10 s) [] (any-ahead true k state (uptoOf 10 s) [] a ∙ f .1) in
+        record { range = p .0; next = f .0; line = p .1; on = f .2 }
+    pick false h = absurd (due (sym (from-end true k state s h) ∙ e))
 
-  due-alike : (b b' : Bool) (n l : ℕ) (o o' : Outcome A) → Same o o' → Same (cond b o (refusal n l)) (cond b' o' (refusal n l))
-  due-alike true true n l o o' same = same
-  due-alike true false n l o o' same = λ t t' e e'. no-values e'
-  due-alike false b' n l o o' same = λ t t' e e'. no-values e
+-- after the end nothing is left
+done : (k : ℕ) (h : Head) (l : List Member) (s : List ℕ) (c : Case) → walkFrom true k (ended h l) s ≡ values c → (s ≡ []) × (c ≡ caseOf h l)
+unfolding step lineOf
+done k h l s c e = pick (hasOf 10 s) refl
+  where
+    bare : (s : List ℕ) → closed k s (ended h l) ≡ values c → (s ≡ []) × (c ≡ caseOf h l)
+    bare [] e = (refl, sym (values-one e))
+    bare (b ∷ s) e = no-values (rw (eqb·suc-zero (length s)) at e)
 
-  line-alike : (r l : ℕ) (v : A) (o o' : Outcome (List A)) → Same o o' → Same (passing r l (prepend (v ∷ []) o)) (passing r l (prepend (v ∷ []) o'))
-  line-alike r l v o o' same t t' e e' =
-      let q = prepended v o (passed r l _ e .1) in
-      let q' = prepended v o' (passed r l _ e' .1) in
-      rw (q .1, q' .1, same (q .0) (q' .0) (q .2) (q' .2))
-
-term-alike : (k f : ℕ) (x : Number) (more more' : ℕ → Outcome (List ℕ)) → ((g : ℕ) → Same (more g) (more' g)) → Same (afterTerm true k f x more) (afterTerm true k f x more')
-term-alike k f Malformed more more' same = alike (refusal 10 k)
-term-alike k f (Value v) more more' same =
-    let g = formulaFrom k f v in line-alike (termRule k f v) k v (more g) (more' g) (same g)
-
-row-alike : (age before : ℕ) (x : RowForm) (more more' : ℕ → Outcome (List (List ℕ))) → ((z : ℕ) → Same (more z) (more' z)) → Same (afterRow true age before x more) (afterRow true age before x more')
-row-alike age before Wrong more more' same = alike (refusal 10 (age - 6))
-row-alike age before (Rates d w i z) more more' same =
-    line-alike (rowRule age before d w i z) (age - 6) (d ∷ w ∷ i ∷ z ∷ []) (more z) (more' z) (same z)
-
-pub head-same : (n k f : ℕ) (s s' : List ℕ) → Agree n s s' → Same (headOf true n k f s) (headOf true n k f s')
-unfolding headOf linesPast
-head-same zero k f s s' same = alike (values [])
-head-same (suc n) k f s s' same =
-    let first : uptoOf 10 s ≡ uptoOf 10 s' = same 0 (omega arith) in
-    rw first
-    (due-alike (hasOf 10 s) (hasOf 10 s') 2 k _ _
-    (term-alike k f (termOf k (uptoOf 10 s')) _ _ (λ g. head-same n (k + 1) g (pastOf 10 s) (pastOf 10 s') (λ j h. same (suc j) (omega arith)))))
-
-pub rows-same : (n age before : ℕ) (s s' : List ℕ) → Agree n s s' → Same (rowsOf true n age before s) (rowsOf true n age before s')
-unfolding rowsOf linesPast
-rows-same zero age before s s' same = alike (values [])
-rows-same (suc n) age before s s' same =
-    let first : uptoOf 10 s ≡ uptoOf 10 s' = same 0 (omega arith) in
-    rw first
-    (due-alike (hasOf 10 s) (hasOf 10 s') 2 (age - 6) _ _
-    (row-alike age before (rowOf age (uptoOf 10 s')) _ _ (λ z. rows-same n (age + 1) z (pastOf 10 s) (pastOf 10 s') (λ j h. same (suc j) (omega arith)))))
+    pick : (b : Bool) → hasOf 10 s ≡ b → (s ≡ []) × (c ≡ caseOf h l)
+    pick true h = no-values (sym (from-line true k _ s h) ∙ e)
+    pick false h = bare s (sym (from-end true k _ s h) ∙ e)
 
 -- ---- the members
 -- a line that begins with member= is no end line
-no-end : (x : Three) (y : Number) {v : ℕ} → memberMade x y ≡ OfEnd v → ⊥
-no-end (Found a b c) (Value d) e = let z : _≡_ {A = ℕ} 0 1 = cc in omega arith
-no-end (Found a b c) Malformed e = let z : _≡_ {A = ℕ} 0 1 = cc in omega arith
-no-end NotThree y e = let z : _≡_ {A = ℕ} 0 1 = cc in omega arith
+no-end : {A : Type 0} (x : Values) {n : ℕ} → personMade x ≡ end n → A
+no-end (found vs) e = let z : _≡_ {A = ℕ} 0 1 = cc in absurd (omega arith)
+no-end misread e = let z : _≡_ {A = ℕ} 0 1 = cc in absurd (omega arith)
 
-member-or-end : (full : Bool) (line : List ℕ) {v : ℕ} → startsOf (bytes "member=") line ≡ true → tailOf full line ≡ OfEnd v → ⊥
-unfolding tailOf memberOf
-member-or-end true line is e = let z : _≡_ {A = ℕ} 0 1 = cc in omega arith
-member-or-end false line is e = no-end (threeOf (drop 7 line)) (amountOf (fourthOf (drop 7 line))) (rw is at e)
+-- and where a line is an end, it is one whether or not there is room for a member
+record Ends (line : List ℕ) (n : ℕ) : Type 0 where
+  begins : startsOf (bytes "member=") line ≡ false
+  any : tailOf false line ≡ end n
+
+ends : (full : Bool) (line : List ℕ) (n : ℕ) → tailOf full line ≡ end n → Ends line n
+unfolding tailOf
+ends full line n e = pick (startsOf (bytes "member=") line) refl full e
+  where
+    pick : (b : Bool) → startsOf (bytes "member=") line ≡ b → (full : Bool) → tailOf full line ≡ end n → Ends line n
+    pick true is true e = let z : _≡_ {A = ℕ} 0 1 = cc (rw is at e) in absurd (omega arith)
+    pick true is false e = no-end (keyedOf (bytes "member=") amountOf 3 line) (rw is at e)
+    pick false is full e = record { begins = is; any = rw is (rw is at e) }
 
 -- nothing stands after the end
 no-lines : (j : ℕ) → uptoOf 10 (linesPast j []) ≡ []
@@ -105,98 +103,104 @@ unfolding linesPast uptoOf pastOf
 no-lines zero = refl
 no-lines (suc j) = no-lines j
 
--- and the end holds the count
-module _ (v count k n : ℕ) where
-  end-bare : (a : Bool) (rest : List ℕ) {l : List Member} → eqb v count ≡ a → cond a (cond (eqb (length rest) 0) (values []) (refusal 3 k)) (refusal 4 n) ≡ values l → (v ≡ count) × (rest ≡ []) × (l ≡ [])
-  end-bare true [] h e = (eqb-true v count h, refl, sym (values-one e))
-  end-bare true (b ∷ rest) h e = no-values (rw (eqb·suc-zero (length rest)) at e)
-  end-bare false rest h e = no-values e
+-- a case is what stands before its members, the members before these lines, and those of these lines: each that begins with member= is
+-- one, and the next is the end
+pub record Lined (c : Case) (h : Head) (before : List Member) (s : List ℕ) : Type 0 where
+  pub own : List Member
+  pub is : c ≡ caseOf h (before ++ own)
+  pub all : (j : ℕ) → startsOf (bytes "member=") (uptoOf 10 (linesPast j s)) ≡ true → j < length own
+  pub each : (j : ℕ) → j < length own → tailOf false (uptoOf 10 (linesPast j s)) ≡ person (getD own j nobody)
+  pub counted : tailOf false (uptoOf 10 (linesPast (length own) s)) ≡ end (length (c .members))
 
--- where a line is an end, it is one whether or not there is room for a member
-end-either : (b : Bool) (x y : Tail) {v : ℕ} → cond b Surplus y ≡ OfEnd v → cond b x y ≡ OfEnd v
-end-either true x y e = let z : _≡_ {A = ℕ} 0 1 = cc in absurd (omega arith)
-end-either false x y e = e
-
-end-any : (full : Bool) (line : List ℕ) {v : ℕ} → tailOf full line ≡ OfEnd v → tailOf false line ≡ OfEnd v
-unfolding tailOf
-end-any true line e = end-either (startsOf (bytes "member=") line) _ _ e
-end-any false line e = e
-
--- the lines that begin with member= are the members', and the next is the end, after `count` members before these
-pub record Lined (count : ℕ) (l : List Member) (s : List ℕ) : Type 0 where
-  pub all : (j : ℕ) → startsOf (bytes "member=") (uptoOf 10 (linesPast j s)) ≡ true → j < length l
-  pub each : (j : ℕ) → j < length l → tailOf false (uptoOf 10 (linesPast j s)) ≡ OfMember (getD l j nobody)
-  pub counted : tailOf false (uptoOf 10 (linesPast (length l) s)) ≡ OfEnd (count + length l)
-
-module _ (m : Member) (count : ℕ) (l : List Member) (s : List ℕ) (is : tailOf false (uptoOf 10 s) ≡ OfMember m) (later : Lined (count + 1) l (pastOf 10 s)) where
-  all-next : (j : ℕ) → startsOf (bytes "member=") (uptoOf 10 (linesPast j s)) ≡ true → j < length (m ∷ l)
+module _ (c : Case) (h : Head) (before : List Member) (s : List ℕ) where
+  lined-member : (m : Member) → tailOf false (uptoOf 10 s) ≡ person m → Lined c h (before ++ m ∷ []) (pastOf 10 s) → Lined c h before s
   unfolding linesPast
-  all-next zero starts = omega arith
-  all-next (suc j) starts = omega (arith, later .all j starts)
+  lined-member m is later = record { own = m ∷ later .own; is = rw append-assoc at (later .is); all = all; each = each; counted = later .counted }
+    where
+      all : (j : ℕ) → startsOf (bytes "member=") (uptoOf 10 (linesPast j s)) ≡ true → j < length (m ∷ later .own)
+      all zero starts = omega arith
+      all (suc j) starts = omega (arith, later .all j starts)
 
-  each-next : (j : ℕ) → j < length (m ∷ l) → tailOf false (uptoOf 10 (linesPast j s)) ≡ OfMember (getD (m ∷ l) j nobody)
+      each : (j : ℕ) → j < length (m ∷ later .own) → tailOf false (uptoOf 10 (linesPast j s)) ≡ person (getD (m ∷ later .own) j nobody)
+      each zero h = is
+      each (suc j) h = later .each j (omega arith)
+
+  lined-end : Ends (uptoOf 10 s) (length before) → (pastOf 10 s ≡ []) × (c ≡ caseOf h before) → Lined c h before s
   unfolding linesPast
-  each-next zero h = is
-  each-next (suc j) h = later .each j (omega arith)
+  lined-end e last = record { own = []; is = rw append-nil (last .1); all = all; each = λ j h. absurd (omega (arith, h)); counted = rw (last .1) (e .any) }
+    where
+      all : (j : ℕ) → startsOf (bytes "member=") (uptoOf 10 (linesPast j s)) ≡ true → j < 0
+      all zero starts = off (sym starts ∙ e .begins)
+      all (suc j) starts = off (sym (rw (last .0, no-lines j) at starts))
 
-  lined-member : Lined count (m ∷ l) s
+  tail-lined : (k : ℕ) (full : Bool) (x : Tail) {r : ℕ} {next : State} → tailOf full (uptoOf 10 s) ≡ x → tailLine h before x ≡ right r next → walkFrom true (k + 1) next (pastOf 10 s) ≡ values c → ((m : Member) → x ≡ person m → walkFrom true (k + 1) (people h (before ++ m ∷ [])) (pastOf 10 s) ≡ values c → Lined c h before s) → Lined c h before s
+  tail-lined k full (person m) {r} {next} is line on later =
+      let is-next : next ≡ people h (before ++ m ∷ []) = cc in
+      later m refl (rw is-next at on)
+  tail-lined k full (end n) {r} {next} is line on later = pick (eqb n (length before)) refl line
+    where
+      pick : (b : Bool) → eqb n (length before) ≡ b → cond b (right 0 (ended h before)) (wrong 0 wrongCount) ≡ right r next → Lined c h before s
+      pick true e line =
+          let is-next : next ≡ ended h before = cc in
+          lined-end (ends full (uptoOf 10 s) (length before) (is ∙ ap end (eqb-true n (length before) e))) (done (k + 1) h before (pastOf 10 s) c (rw is-next at on))
+      pick false e line = let z : _≡_ {A = ℕ} 0 1 = cc in absurd (omega arith)
+  tail-lined k full surplus is line on later = let z : _≡_ {A = ℕ} 0 1 = cc in absurd (omega arith)
+  tail-lined k full neither is line on later = let z : _≡_ {A = ℕ} 0 1 = cc in absurd (omega arith)
+
+-- from the members on, with room for n more
+members-lined : (n k : ℕ) (c : Case) (h : Head) (before : List Member) (s : List ℕ) → length before + n ≡ mostMembers → walkFrom true k (people h before) s ≡ values c → Lined c h before s
+unfolding lineOf
+members-lined zero k c h before s room e =
+    let g = goes k (people h before) s c (λ e. no-values e) e in
+    let full = le-leb mostMembers (length before) (omega arith) in
+    tail-lined c h before s k true (tailOf true (uptoOf 10 s)) refl (rw full at (g .line)) (g .on) (λ m is on. full-none (uptoOf 10 s) m is)
+members-lined (suc n) k c h before s room e =
+    let g = goes k (people h before) s c (λ e. no-values e) e in
+    let full = lt-leb mostMembers (length before) (omega arith) in
+    tail-lined c h before s k false (tailOf false (uptoOf 10 s)) refl (rw full at (g .line)) (g .on)
+    (λ m is on. lined-member c h before s m is (members-lined n (k + 1) c h (before ++ m ∷ []) (pastOf 10 s) (omega (arith, length-append before (m ∷ []))) on))
+
+-- ---- two files that agree in the lines before the members
+-- the first n lines are the same
+abbrev pub Agree : ℕ → List ℕ → List ℕ → Type 0
+Agree n s s' = (j : ℕ) → j < n → uptoOf 10 (linesPast j s) ≡ uptoOf 10 (linesPast j s')
+
+-- they hold the same up to there
+pub record Alike (s s' : List ℕ) (c c' : Case) : Type 0 where
+  pub head : Head
+  pub own : Lined c head [] s
+  pub other : Lined c' head [] s'
+
+not-yet : (k : ℕ) (s : List ℕ) (state : State) (c : Case) → Sized k state → k ≤ linesBefore → closed k s state ≡ values c → ⊥
+not-yet k s (heading h) c sized low e = no-values e
+not-yet k s (table h) c sized low e = no-values e
+not-yet k s (people h l) c sized low e = no-values e
+not-yet k s (ended h l) c sized low e = omega (arith, sized .0)
+
+module _ (c c' : Case) where
+  from-members : (k : ℕ) (state : State) (s s' : List ℕ) → Sized k state → k ≡ linesBefore + 1 → walkFrom true k state s ≡ values c → walkFrom true k state s' ≡ values c' → Alike s s' c c'
+  from-members k (heading h) s s' sized at e e' = absurd (omega (arith, sized .0, sized .1))
+  from-members k (table h) s s' sized at e e' = absurd (omega (arith, sized .0, sized .2))
+  from-members k (people h []) s s' sized at e e' = record { head = h; own = members-lined mostMembers k c h [] s refl e; other = members-lined mostMembers k c' h [] s' refl e' }
+  from-members k (people h (m ∷ l)) s s' sized at e e' = absurd (omega (arith, sized .0))
+  from-members k (ended h l) s s' sized at e e' = absurd (omega (arith, sized .0))
+
+  head-same : (n k : ℕ) (state : State) (s s' : List ℕ) → Sized k state → k + n ≡ linesBefore + 1 → Agree n s s' → walkFrom true k state s ≡ values c → walkFrom true k state s' ≡ values c' → Alike (linesPast n s) (linesPast n s') c c'
   unfolding linesPast
-  lined-member =
-      let one : count + 1 + length l ≡ count + suc (length l) = omega arith in
-      record { all = all-next; each = each-next; counted = rw one at (later .counted) }
+  head-same zero k state s s' sized at same e e' = from-members k state s s' sized (omega arith) e e'
+  head-same (suc n) k state s s' sized at same e e' =
+      let g = goes k state s c (not-yet k s state c sized (omega arith)) e in
+      let g' = goes k state s' c' (not-yet k s' state c' sized (omega arith)) e' in
+      let next : g' .next ≡ g .next = cc (g .line, g' .line, same 0 (omega arith)) in
+      head-same n (k + 1) (g .next) (pastOf 10 s) (pastOf 10 s') (rw (g .line) at (line-sized k state (uptoOf 10 s) [] sized)) (omega arith) (λ j h. same (suc j) (omega arith)) (g .on) (rw next at (g' .on))
 
-module _ (full : Bool) (count : ℕ) (s : List ℕ) (is : tailOf full (uptoOf 10 s) ≡ OfEnd count) (none : pastOf 10 s ≡ []) where
-  all-done : (j : ℕ) → startsOf (bytes "member=") (uptoOf 10 (linesPast j s)) ≡ true → j < 0
-  unfolding linesPast
-  all-done zero starts = absurd (member-or-end full (uptoOf 10 s) starts is)
-  all-done (suc j) starts =
-      let no : false ≡ true = rw (none, no-lines j) at starts in
-      let z : _≡_ {A = ℕ} 0 1 = cc in absurd (omega arith)
-
-  lined-end : Lined count [] s
-  unfolding linesPast
-  lined-end =
-      record { all = all-done; each = λ j h. absurd (omega (arith, h)); counted = rw (add-zero count) (end-any full (uptoOf 10 s) is) }
-
-module _ (p : Plan) (rows : List (List ℕ)) where
-  tail-lined : (full b : Bool) (count before : ℕ) (s : List ℕ) (l : List Member) (x : Tail) (more : Member → Outcome (List Member)) → tailOf full (uptoOf 10 s) ≡ x → ((m : Member) (k : List Member) → more m ≡ values k → (full ≡ false) × Lined (count + 1) k (pastOf 10 s)) → cond b (afterTail true p rows count before x (pastOf 10 s) more) (refusal 2 (count + 115)) ≡ values l → Lined count l s
-  tail-lined full false count before s l x more is later e = no-values e
-  tail-lined full true count before s l (OfMember m) more is later e =
-      let q = prepended m (more m) (passed (memberRefusal p rows before m) (count + 115) _ e .1) in
-      let on = later m (q .0) (q .2) in
-      rw (q .1) (lined-member m count (q .0) s (rw (on .0) at is) (on .1))
-  tail-lined full true count before s l (OfEnd v) more is later e =
-      let q = end-bare v count (count + 116) (count + 115) (eqb v count) (pastOf 10 s) refl e in
-      rw (q .2) (lined-end full count s (rw (q .0) at is) (q .1))
-  tail-lined full true count before s l Surplus more is later e = no-values e
-  tail-lined full true count before s l Neither more is later e = no-values e
-
-  members-lined : (n count before : ℕ) (s : List ℕ) (l : List Member) → membersOf true p rows n count before s ≡ values l → Lined count l s
-  unfolding membersOf
-  members-lined zero count before s l e =
-      tail-lined true (hasOf 10 s) count before s l (tailOf true (uptoOf 10 s)) (λ m. refusal 27 (count + 115)) refl (λ m k h. no-values h) e
-  members-lined (suc n) count before s l e =
-      tail-lined false (hasOf 10 s) count before s l (tailOf false (uptoOf 10 s)) (λ m. membersOf true p rows n (count + 1) (m .id) (pastOf 10 s)) refl (λ m k h. (refl, members-lined n (count + 1) (m .id) (pastOf 10 s) k h)) e
-
--- ---- two accepted files
-module _ (s s' : List ℕ) (c c' : Case) where
-  pub plan-same : Agree 114 s s' → acceptingOf s ≡ values c → acceptingOf s' ≡ values c' → (c .plan ≡ c' .plan) × (c .rows ≡ c' .rows)
-  unfolding acceptingOf
-  plan-same same e e' =
-      let f = parts true s c e in
-      let f' = parts true s' c' e' in
-      let terms = head-same 8 1 0 s s' (λ j h. same j (omega arith)) (f .terms) (f' .terms) (f .head) (f' .head) in
-      let after : Agree 106 (linesPast 8 s) (linesPast 8 s') =
-      λ j h. rw (← past-both 8 j s, ← past-both 8 j s') (same (8 + j) (omega arith)) in
-      (rw (f .plan, f' .plan, terms), rows-same 106 15 0 (linesPast 8 s) (linesPast 8 s') after (c .rows) (c' .rows) (f .rows) (f' .rows))
-
--- the members' lines come after 114 others
-pub file-lined : (s : List ℕ) (c : Case) → acceptingOf s ≡ values c → Lined 0 (c .members) (linesPast 114 s)
-unfolding acceptingOf
-file-lined s c e = members-lined (c .plan) (c .rows) 1000 0 0 (linesPast 114 s) (c .members) (parts true s c e .members)
-
-pub member-same : {m m' : Member} {line line' : List ℕ} → tailOf false line ≡ OfMember m → tailOf false line' ≡ OfMember m' → line ≡ line' → m ≡ m'
-member-same is is' e = of-one (sym is ∙ ap (tailOf false) e ∙ is')
+from-start : (s : List ℕ) (c : Case) → acceptingOf s ≡ values c → walkFrom true 1 start s ≡ values c
+unfolding acceptingOf walkOf
+from-start s c = pick (ltb 65536 (length s))
   where
-    of-one : {m m' : Member} → OfMember m ≡ OfMember m' → m ≡ m'
-    of-one h = cc
+    pick : (b : Bool) → cond b (refusal tooLarge 0) (walkFrom true 1 start s) ≡ values c → walkFrom true 1 start s ≡ values c
+    pick true e = no-values e
+    pick false e = e
+
+pub files-lined : (s s' : List ℕ) (c c' : Case) → Agree linesBefore s s' → acceptingOf s ≡ values c → acceptingOf s' ≡ values c' → Alike (linesPast linesBefore s) (linesPast linesBefore s') c c'
+files-lined s s' c c' same e e' = head-same c c' linesBefore 1 start s s' start-sized (omega arith) same (from-start s c e) (from-start s' c' e')

@@ -3,7 +3,6 @@ use mathlib.Core.Path.{_≡_, refl, sym, ap, _∙_}
 use mathlib.Core.Bool.{Bool, true, false, cond}
 use mathlib.Core.List.{List, [], _∷_, _++_}
 use Prim.Native.Nat.{ℕ, suc, _+_, _-_, _<_}
-use native.Mathlib.Nat.{zero-add}
 use native.Mathlib.Omega.{arith}
 use lib.Dec.{leb}
 use lib.ListN.{length, getD}
@@ -11,30 +10,23 @@ use Rattle.plan.proofs.Facts.{plan-facts, member-facts}
 use Rattle.costs.specs.Demand3.{WithinLimits}
 use Rattle.costs.specs.Valuation.{methodOf, caseOf, figuresAt, figures}
 use Rattle.costs.proofs.Answers.{valued, limited, demand-3-forms, demand-3-sharp-limits}
-use Rattle.casefile.specs.Split.{uptoOf, linesPast}
-use Rattle.casefile.specs.Outcome.{Outcome, values, refusal, andThen}
-use Rattle.casefile.specs.Case.{Case, nobody, acceptingOf, idBefore}
-use Rattle.casefile.proofs.OutcomeLaws.{no-values, values-one}
-use Rattle.casefile.proofs.Accepted.{accepted-case}
-use Rattle.valuation.specs.Totals.{total, unfunded, supplemental}
+use Rattle.walk.specs.Outcome.{values, refusal}
+use Rattle.walk.specs.Walk.{Case}
+use Rattle.walk.specs.Kept.{nobody, idBefore}
+use Rattle.walk.proofs.OutcomeLaws.{no-values, values-one, then-values}
+use Rattle.walk.proofs.Accepted.{accepted-keeps}
+use Rattle.casefile.specs.Answers.{acceptingOf}
+use Rattle.totals.specs.Totals.{total, unfunded, supplemental}
 use Rattle.valuation.specs.Lines.{memberLine, planLines, printed}
 use Rattle.valuation.specs.Answers.{fitting, valuedOf}
-use Rattle.statements.specs.Statements.{lineOf, Every-Member, Members-Are-Lines, Plan-Lines, Independence, Totals-Are-Sums, Totals-Accuracy, supplemental*, Supplemental-Accuracy}
+use Rattle.statements.specs.LinesOf.{linesPast, lineAt, linesBefore}
+use Rattle.statements.specs.Statements.{Every-Member, Members-Are-Lines, Plan-Lines, Independence, Totals-Are-Sums, Totals-Accuracy, supplemental*, Supplemental-Accuracy}
 use Rattle.statements.proofs.LineEnds.{member-is-line, member-text, members-done}
-use Rattle.statements.proofs.FileLines.{past-both, Agree, plan-same, file-lined, member-same}
+use Rattle.statements.proofs.FileLines.{Agree, files-lined, line-past, line-of-member}
 use Rattle.statements.proofs.LoneMember.{accepted-alone}
-use Rattle.valuation.proofs.TotalLaws.{total-one, total-both}
+use Rattle.totals.proofs.TotalLaws.{total-one, total-both}
 use Rattle.statements.proofs.TotalSums.{sums-close}
 use Rattle.statements.proofs.SupplementalLaws.{payment-close}
-
--- ---- the lines of a file
--- the line after n others
-line-past : (n : ℕ) (s : List ℕ) → lineOf (suc n) s ≡ uptoOf 10 (linesPast n s)
-unfolding lineOf
-line-past n s = let past : suc n - 1 ≡ n = omega arith in rw past
-
-line-115 : (j : ℕ) (s : List ℕ) → lineOf (115 + j) s ≡ uptoOf 10 (linesPast (114 + j) s)
-line-115 j s = let next : 115 + j ≡ suc (114 + j) = omega arith in rw next (line-past (114 + j) s)
 
 -- ---- what is printed of an accepted file
 fits-whole : (b : Bool) (lines : List ℕ) {out : List ℕ} → cond b (values lines) (refusal 30 0) ≡ values out → out ≡ lines
@@ -49,27 +41,28 @@ printed-of s room c accepted e =
 
 -- the text of member j's line
 module _ (s : List ℕ) (room : ℕ) (c : Case) {out : List ℕ} (accepted : acceptingOf s ≡ values c) (fits : valuedOf room s ≡ values out) (j : ℕ) (there : j < length (c .members)) where
-  own-text : lineOf (1 + j) out ≡ member-is-line (c .plan) (c .rows) (getD (c .members) j nobody) .text
-  unfolding lineOf printed
+  own-text : lineAt (1 + j) out ≡ member-is-line (c .plan) (c .rows) (getD (c .members) j nobody) .text
+  unfolding lineAt printed
   own-text =
       let past : 1 + j - 1 ≡ j = omega arith in
       rw (past, printed-of s room c accepted fits) (member-text (c .plan) (c .rows) (c .members) _ j there)
 
 -- each member's figures lie within its limits
 member-close : (s : List ℕ) (c : Case) → acceptingOf s ≡ values c → (j : ℕ) → j < length (c .members) → WithinLimits (caseOf (c .plan) (c .rows) (getD (c .members) j nobody)) (methodOf (c .plan .method)) (getD (c .members) j nobody .age)
+unfolding acceptingOf
 member-close s c accepted j there =
     let m = getD (c .members) j nobody in
-    let rules = accepted-case s c accepted in
+    let rules = accepted-keeps s c accepted .1 in
     let kept = rules .member j there in
     let facts = member-facts (c .plan) (c .rows) (idBefore (c .members) j) m (rules .plan) kept in
     demand-3-sharp-limits (c .plan) (c .rows) (idBefore (c .members) j) m (record { plan = rules .plan; member = kept }) (methodOf (c .plan .method)) (m .age) (omega (arith, facts)) (omega (arith, facts))
 
 pub every-member : Every-Member
-unfolding memberLine
+unfolding memberLine acceptingOf
 every-member s out room c accepted fits j there =
     let m = getD (c .members) j nobody in
     let before = idBefore (c .members) j in
-    let rules = accepted-case s c accepted in
+    let rules = accepted-keeps s c accepted .1 in
     let kept = rules .member j there in
     record {
       shown = ap (λ (text : List ℕ). text ++ (10 ∷ [])) (own-text s room c accepted fits j there) ∙ sym (member-is-line (c .plan) (c .rows) m .is);
@@ -81,11 +74,12 @@ every-member s out room c accepted fits j there =
 
 pub members-are-lines : Members-Are-Lines
 members-are-lines s c accepted =
-    let lined = file-lined s c accepted in
+    let lined = files-lined s s c c (λ j h. refl) accepted accepted .own in
+    let own : lined .own ≡ c .members = sym (ap (λ (c : Case). c .members) (lined .is)) in
     record {
-      all = λ j starts. lined .all j (rw (line-115 j s, past-both 114 j s) at starts);
-      each = λ j there. rw (line-115 j s, past-both 114 j s) (lined .each j there);
-      counted = rw (line-115 (length (c .members)) s, past-both 114 (length (c .members)) s) (rw (zero-add (length (c .members))) at (lined .counted));
+      all = λ j starts. rw own at (lined .all j (rw (line-of-member j s) at starts));
+      each = λ j there. rw (line-of-member j s, ← own) (lined .each j (rw own there));
+      counted = rw (line-of-member (length (c .members)) s) (rw own at (lined .counted));
     }
 
 pub plan-lines : Plan-Lines
@@ -94,13 +88,9 @@ plan-lines s out room c accepted fits =
     ap (linesPast (length (c .members))) (printed-of s room c accepted fits) ∙ members-done (c .plan) (c .rows) (c .members) _
 
 -- ---- independence
-accepted-of : (o : Outcome Case) (more : Case → Outcome (List ℕ)) {out : List ℕ} → andThen o more ≡ values out → (c : Case) × (o ≡ values c)
-accepted-of (values c) more e = (c, refl)
-accepted-of (refusal n l) more e = no-values e
-
 case-of : (s : List ℕ) (room : ℕ) {out : List ℕ} → valuedOf room s ≡ values out → (c : Case) × (acceptingOf s ≡ values c)
 unfolding valuedOf
-case-of s room = accepted-of (acceptingOf s) _
+case-of s room e = let f = then-values (acceptingOf s) _ e in (f .0, f .1)
 
 pub independence : Independence
 independence s s' out out' room room' j j' fits fits' agree =
@@ -108,15 +98,17 @@ independence s s' out out' room room' j j' fits fits' agree =
     let a' = case-of s' room' fits' in
     let c = a .0 in
     let c' = a' .0 in
-    let before : Agree 114 s s' = λ n h. sym (line-past n s) ∙ agree .before (suc n) (omega arith) (omega arith) ∙ line-past n s' in
+    let before : Agree linesBefore s s' = λ n h. sym (line-past n s) ∙ agree .before (suc n) (omega arith) (omega arith) ∙ line-past n s' in
     let lines = members-are-lines s c (a .1) in
     let lines' = members-are-lines s' c' (a' .1) in
     let there = lines .all j (agree .member) in
     let there' = lines' .all j' (rw (agree .same) at (agree .member)) in
-    let member = member-same (lines .each j there) (lines' .each j' there') (agree .same) in
-    let plan = plan-same s s' c c' before (a .1) (a' .1) in
+    let member : getD (c .members) j nobody ≡ getD (c' .members) j' nobody = cc (lines .each j there, lines' .each j' there', agree .same) in
+    let f = files-lined s s' c c' before (a .1) (a' .1) in
+    let plan : c .plan ≡ c' .plan = cc (f .own .is, f .other .is) in
+    let rows : c .rows ≡ c' .rows = cc (f .own .is, f .other .is) in
     own-text s room c (a .1) fits j there
-    ∙ (λ i. member-is-line (plan .0 i) (plan .1 i) (member i) .text)
+    ∙ (λ i. member-is-line (plan i) (rows i) (member i) .text)
     ∙ sym (own-text s' room' c' (a' .1) fits' j' there')
 
 -- ---- totals

@@ -12,8 +12,8 @@ use Rattle.plan.specs.declared.Member.{Member}
 use Rattle.costs.specs.declared.Figures.{Figures}
 use Rattle.costs.specs.Valuation.{figures}
 use Rattle.costs.proofs.Quotients.{close-refl}
-use Rattle.casefile.specs.Case.{nobody}
-use Rattle.valuation.specs.Totals.{total, total*}
+use Rattle.walk.specs.Kept.{nobody}
+use Rattle.totals.specs.Totals.{total, total*}
 
 -- the limits of the members add up
 pub sums-close : (p : Plan) (rows : List (List ℕ)) (figure : Figures → ℕ) (limit exact : Member → Ratio) (l : List Member) → ((j : ℕ) → j < length l → Within (limit (getD l j nobody)) (figure (figures p rows (getD l j nobody))) (exact (getD l j nobody))) → Within (total* limit l) (total p rows figure l) (total* exact l)

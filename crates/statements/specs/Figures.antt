@@ -18,10 +18,10 @@ use Rattle.plan.specs.Acceptance.{loneRefusal, planRefusal, headRules, rowsRefu
 use Rattle.costs.specs.Costs.{PV, cost, N, L}
 use Rattle.costs.specs.Valuation.{methodOf, figuresAt, figures}
 use Rattle.costs.specs.Figures.{short-plan, short-member, figures as member-figures}
-use Rattle.casefile.specs.Text.{bytes}
+use Rattle.fields.specs.Text.{bytes}
 use Rattle.printing.specs.Amounts.{digits, width, whole as wholeText, amount, signedAmount}
 use Rattle.printing.specs.Lines.{fields, amountsLine, signedLine}
-use Rattle.valuation.specs.Totals.{total, unfunded, supplemental}
+use Rattle.totals.specs.Totals.{total, unfunded, supplemental}
 use Rattle.valuation.specs.Lines.{figuresLine, totalLine, planLines, memberLine, memberLines, printed}
 
 -- rule 14.8, the short plan overfunded: no member, and assets of 100.00

@@ -2,7 +2,7 @@
 use mathlib.Core.Path.{_≡_}
 use mathlib.Core.Bool.{true, false}
 use mathlib.Core.List.{List, [], _∷_, _++_}
-use Prim.Native.Nat.{ℕ, _+_, _-_, _≤_, _<_}
+use Prim.Native.Nat.{ℕ, _+_, _≤_, _<_}
 use lib.ListN.{length, getD}
 use lib.IntN.{natAbs}
 use Rattle.fractions.specs.Ratio.{_over_, whole, _⊕_, _⊘_}
@@ -18,23 +18,20 @@ use Rattle.costs.specs.declared.Valuation.the-variants.{Valued}
 use Rattle.costs.specs.Costs.{PV*, N*, L*}
 use Rattle.costs.specs.Demand3.{FormsAgree, V-limit, N-limit, L-limit, WithinLimits}
 use Rattle.costs.specs.Valuation.{methodOf, caseOf, figures, valuation, Limited}
-use Rattle.casefile.specs.declared.members.Tail.the-variants.{OfMember, OfEnd}
-use Rattle.casefile.specs.Text.{bytes}
-use Rattle.casefile.specs.Split.{uptoOf, startsOf, linesPast}
-use Rattle.casefile.specs.Outcome.{values}
-use Rattle.casefile.specs.Members.{tailOf}
-use Rattle.casefile.specs.Case.{Case, nobody, acceptingOf}
-use Rattle.casefile.specs.declared.numbers.Number.the-variants.{Value}
-use Rattle.casefile.specs.Numbers.{wholeOf, amountOf}
+use Rattle.fields.specs.Text.{bytes}
+use Rattle.fields.specs.Split.{startsOf}
+use Rattle.fields.specs.Numbers.{value, wholeOf, amountOf}
+use Rattle.walk.specs.Outcome.{values}
+use Rattle.walk.specs.Lines.{person, end, tailOf}
+use Rattle.walk.specs.Walk.{Case}
+use Rattle.walk.specs.Kept.{nobody}
+use Rattle.casefile.specs.Answers.{acceptingOf}
 use Rattle.printing.specs.Amounts.{amount, whole as wholeNumber}
 use Rattle.printing.specs.Lines.{signedLine}
-use Rattle.valuation.specs.Totals.{total, total*, totals, unfunded, supplemental}
+use Rattle.totals.specs.Totals.{total, total*, totals, unfunded, supplemental}
 use Rattle.valuation.specs.Lines.{figuresLine, totalLine}
 use Rattle.valuation.specs.Answers.{valuedOf}
-
--- line n of a text, counted from 1, without the byte 10 that ends it
-unfoldable pub lineOf : ℕ → List ℕ → List ℕ
-lineOf n s = uptoOf 10 (linesPast (n - 1) s)
+use Rattle.statements.specs.LinesOf.{linesPast, lineAt, firstMember}
 
 -- ---- an accepted file whose lines fit the buffer
 -- what holds of a member m and its printed line: demands 2 and 3
@@ -54,17 +51,17 @@ pub record MemberPrinted (c : Case) (m : Member) (line : List ℕ) : Type 0 wher
 abbrev pub Every-Member : Type 0
 Every-Member =
     (s out : List ℕ) (room : ℕ) (c : Case) → acceptingOf s ≡ values c → valuedOf room s ≡ values out
-    → (j : ℕ) → j < length (c .members) → MemberPrinted c (getD (c .members) j nobody) (lineOf (1 + j) out)
+    → (j : ℕ) → j < length (c .members) → MemberPrinted c (getD (c .members) j nobody) (lineAt (1 + j) out)
 
 -- rules 4.1 and 4.6, the lines after the table: the members of an accepted file s are its lines that begin with member=, no more and
 -- no fewer
 pub record MembersStand (c : Case) (s : List ℕ) : Type 0 where
   -- a line that begins with member= is a member's: none is lost
-  pub all : (j : ℕ) → startsOf (bytes "member=") (lineOf (115 + j) s) ≡ true → j < length (c .members)
-  -- member j stands in line 115 + j: none is invented
-  pub each : (j : ℕ) → j < length (c .members) → tailOf false (lineOf (115 + j) s) ≡ OfMember (getD (c .members) j nobody)
+  pub all : (j : ℕ) → startsOf (bytes "member=") (lineAt (firstMember + j) s) ≡ true → j < length (c .members)
+  -- member j stands j lines after the first: none is invented
+  pub each : (j : ℕ) → j < length (c .members) → tailOf false (lineAt (firstMember + j) s) ≡ person (getD (c .members) j nobody)
   -- and the line after theirs holds their count
-  pub counted : tailOf false (lineOf (115 + length (c .members)) s) ≡ OfEnd (length (c .members))
+  pub counted : tailOf false (lineAt (firstMember + length (c .members)) s) ≡ end (length (c .members))
 
 abbrev pub Members-Are-Lines : Type 0
 Members-Are-Lines = (s : List ℕ) (c : Case) → acceptingOf s ≡ values c → MembersStand c s
@@ -79,18 +76,18 @@ Plan-Lines =
     ++ signedLine (bytes "supplemental=") (supplemental (c .plan) (c .rows) (c .members))
 
 -- ---- independence
--- two files agree in lines 1 to 114, all lines before the members, and the line of member j in one is that of member j' in the other
+-- two files agree in all lines before the members, and the line of member j in one is that of member j' in the other
 pub record Agreeing (s s' : List ℕ) (j j' : ℕ) : Type 0 where
-  pub before : (n : ℕ) → 1 ≤ n → n ≤ 114 → lineOf n s ≡ lineOf n s'
-  pub member : startsOf (bytes "member=") (lineOf (115 + j) s) ≡ true
-  pub same : lineOf (115 + j) s ≡ lineOf (115 + j') s'
+  pub before : (n : ℕ) → 1 ≤ n → n < firstMember → lineAt n s ≡ lineAt n s'
+  pub member : startsOf (bytes "member=") (lineAt (firstMember + j) s) ≡ true
+  pub same : lineAt (firstMember + j) s ≡ lineAt (firstMember + j') s'
 
 -- rule 11.5: whatever the other members are, the same line is printed for the same member.
 -- Where `valuedOf` has values, the file is accepted and the lines fit; the members' lines stand first among them
 abbrev pub Independence : Type 0
 Independence =
     (s s' out out' : List ℕ) (room room' j j' : ℕ) → valuedOf room s ≡ values out → valuedOf room' s' ≡ values out'
-    → Agreeing s s' j j' → lineOf (1 + j) out ≡ lineOf (1 + j') out'
+    → Agreeing s s' j j' → lineAt (1 + j) out ≡ lineAt (1 + j') out'
 
 -- ---- totals
 -- rule 11.1, totals are sums: nothing of no member, a figure of one, and of two lists what the two come to
@@ -131,11 +128,11 @@ Supplemental-Accuracy =
 -- ---- the form of what is printed: proved in proofs/ReadBack.antt and proofs/AmountSizes.antt
 -- rule 13.4, numbers as in a case file: what reads a case file reads a printed whole number back (rule 1.3), and finds what was printed
 abbrev pub Wholes-Read-Back : Type 0
-Wholes-Read-Back = (n : ℕ) → n < 1000000000000 → wholeOf (wholeNumber n) ≡ Value n
+Wholes-Read-Back = (n : ℕ) → n < 1000000000000 → wholeOf (wholeNumber n) ≡ value n
 
 -- and a printed amount (rule 1.4)
 abbrev pub Amounts-Read-Back : Type 0
-Amounts-Read-Back = (cents : ℕ) → cents < 100000000000000 → amountOf (amount cents) ≡ Value cents
+Amounts-Read-Back = (cents : ℕ) → cents < 100000000000000 → amountOf (amount cents) ≡ value cents
 
 -- and every number and amount that is printed of an accepted case is one of those: an amount is 999999999999.99 at most, whatever its sign
 abbrev pub Fits : ℕ → Type 0

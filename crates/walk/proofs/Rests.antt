@@ -68,7 +68,7 @@ then-refused (values a) f g on e = on a e
 then-refused (refusal n l) f g on e = e
 
 -- no line looks at the one after it
-any-ahead : (ranges : Bool) (k : ℕ) (state : State) (line a b : List ℕ) → step ranges k state line a ≡ step ranges k state line b
+pub any-ahead : (ranges : Bool) (k : ℕ) (state : State) (line a b : List ℕ) → step ranges k state line a ≡ step ranges k state line b
 unfolding lineOf step
 any-ahead ranges k (heading h) line a b = refl
 any-ahead ranges k (table h) line a b = refl
