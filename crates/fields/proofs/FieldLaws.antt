@@ -18,6 +18,9 @@ use Rattle.fields.specs.Values.{placed, fieldOf}
 use Rattle.fields.proofs.SplitLaws.{and-true-left, and-true-right, and-false, lacks, After, after, here, has-lacks}
 
 -- ---- digits
+pub is-digit : (c : ℕ) → 48 ≤ c → c ≤ 57 → isDigit c ≡ true
+is-digit c low high = simp (le-leb _ _ low, le-leb _ _ high)
+
 pub digit-low : (c : ℕ) → isDigit c ≡ true → 48 ≤ c
 digit-low c e = leb-true _ _ (and-true-left (leb 48 c) (leb c 57) e)
 

@@ -10,8 +10,8 @@ returns-3 c e =
     let rows = c .before .before .before .before .before .before .before .rows-of .ensures in
     rw (c .before .before .copy .ensures) (rw rows at (c .before .before .before .before .life-annuity .ensures))
 
-pub annuity-bench-life-annuity-spec : {M : Type 1} → statement M
-annuity-bench-life-annuity-spec =
+pub bench-annuity-life-annuity-spec : {M : Type 1} → statement M
+bench-annuity-life-annuity-spec =
     tie.close (tie.spec (λ c e. search needs) (search needs) (search needs) (λ c e. search needs)
     (λ c κs. (c .before .is-table .ensures (not-false _ (c .if4 .left)), omega (arith, ltb-false)))
     (λ c κs. eqb-true _ _ (not-false _ (c .before .before .before .before .before .before .if2 .left))) (search needs)

@@ -16,7 +16,7 @@ returns-3 c e =
     let rows = c .before .before .before .before .before .before .before .rows-of .ensures in
     rw (c .before .before .copy .ensures) (rw rows at (c .before .before .before .before .pay-annuity .ensures))
 
-pub annuity-bench-pay-annuity-spec : {M : Type 1} → statement M
-annuity-bench-pay-annuity-spec =
+pub bench-annuity-pay-annuity-spec : {M : Type 1} → statement M
+bench-annuity-pay-annuity-spec =
     tie.close (tie.spec (λ c e. search needs) (search needs) (search needs) (λ c e. search needs) pay-annuity-requires
     copy-requires (search needs) returns-3)

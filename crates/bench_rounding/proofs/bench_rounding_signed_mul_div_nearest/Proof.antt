@@ -10,5 +10,5 @@ returns c =
     let e = c .signed-mul-div-nearest .ensures in
     (ap (λ (s : Signed). s .size) e, ap (λ (s : Signed). s .negative) e)
 
-pub rounding-bench-signed-mul-div-nearest-spec : {M : Type 1} → statement M
-rounding-bench-signed-mul-div-nearest-spec = tie.close (tie.spec (omega arith) returns)
+pub bench-rounding-signed-mul-div-nearest-spec : {M : Type 1} → statement M
+bench-rounding-signed-mul-div-nearest-spec = tie.close (tie.spec (omega arith) returns)
