@@ -7,9 +7,8 @@
 //! - Reading in Rattle stores the rows and the members, in arrays that it clears first and throws away; form.rs keeps
 //!   none. Accepting keeps both on either side: Rattle in such arrays, copied out once all is accepted, so that a
 //!   refusal leaves the caller's as they were; reader.rs in an array and a Vec that grows, handed back as they are.
-//! - Rattle passes over the first 114 lines again, to find where the rows and the members begin. The Rust programs go
-//!   on where they are.
-//! - Rattle copies the rows once a member, 1,696 bytes, since the function that judges one takes them by value.
+//! - Rattle reads every line by one function, which takes its key, its count of commas and its last value's form as
+//!   arguments; the Rust programs have the key and the fields in the code.
 #[expect(dead_code, reason = "what is read is not valued here")]
 mod factors;
 mod files;
@@ -157,7 +156,7 @@ fn main() {
     let title = format!("one file, µs, best of {ROUNDS} rounds");
     println!("{title:62} {:>8} {:>8} {:>7}", "Rattle", "Rust", "ratio");
     cases.iter().for_each(Case::print);
-    println!("what differs: Rattle passes over the first 114 lines again, copies the rows once a member, and clears the arrays");
+    println!("what differs: Rattle reads every line by one function, with its key as an argument, and clears the arrays");
     println!("that it fills; where it accepts it copies them out. Rust goes once over the bytes, and keeps nothing where it reads");
     let mut random = Random(1);
     cases.iter().for_each(|case| case.compare(&mut random));

@@ -398,6 +398,6 @@ fn main() {
     accepting.iter().for_each(|case| case.print(&accepting[0]));
     println!("Python's oracle  members        µs   times Rattle's");
     valuing[1..5].iter().for_each(scale);
-    println!("what differs: Rattle passes rows by value, passes over the first 114 lines again, and clears and copies arrays");
+    println!("what differs: Rattle passes rows by value, and clears and copies arrays");
     check(&valuing);
 }
