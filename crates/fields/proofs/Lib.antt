@@ -1,4 +1,4 @@
--- The laws of fields, from single bytes up to a line.
+-- The laws of fields, from single bytes up to a line; Examples is what a reader looks for.
 pub mod SplitLaws
 pub mod FieldLaws
 pub mod LineLaws
@@ -6,3 +6,4 @@ pub mod AmountLaws
 pub mod ValueLaws
 pub mod KeyLaws
 pub mod AnswerLaws
+pub mod Examples

@@ -5,14 +5,13 @@ use mathlib.Core.List.{List, [], _∷_}
 use mathlib.Core.Bool.{Bool, true, false, cond}
 use mathlib.Core.Logic.{_⊎_, inl, inr, ⊎-elim, _↔_}
 use lib.ListN.{length}
-use lib.Dec.{eqb, eqb·suc-zero}
 use native.Mathlib.Omega.{arith}
 use native.Mathlib.Nat.{add-zero}
 use Rattle.walk.specs.Outcome.{Outcome, values, refusal, andThen, passing, settled}
 use Rattle.walk.specs.Step.{State, Line, wrong, right, lineOf, judged, step}
 use Rattle.walk.specs.Walk.{Case, nextOf, closed, folded}
 use Rattle.walk.specs.Answers.{RangeNumber}
-use Rattle.walk.proofs.OutcomeLaws.{no-values, values-one, passed, then-values, Only, only-then}
+use Rattle.walk.proofs.OutcomeLaws.{refuses, no-values, values-one, passed, then-values, Only, only-then}
 use Rattle.walk.proofs.LineLaws.{along, along-cons}
 
 -- ---- a step that goes on
@@ -65,7 +64,7 @@ line-no-later k (wrong zero n) f g order low on = inl refl
 line-no-later k (wrong (suc r) n) f g order low on = absurd (omega arith)
 line-no-later k (right zero next) f g order low on = on next
 line-no-later k (right (suc r) next) f g order low on =
-    inr (record { number = suc r; line = k; is = rw (eqb·suc-zero r); range = refusing order; later = low next })
+    inr (record { number = suc r; line = k; is = ap (λ (o : Outcome State). andThen o g) (refuses r k (values next)); range = refusing order; later = low next })
 
 module _ (order : (state : State) (line ahead : List ℕ) → InOrder (lineOf state line ahead)) (low : (rest : List ℕ) (j k : ℕ) (state : State) (lines : List (List ℕ)) → j < k → Only (λ n l. j < l) (along false rest k state lines)) where
   pub along-no-later : (rest : List ℕ) (k : ℕ) (state : State) (lines : List (List ℕ)) → NoLater (along false rest k state lines) (along true rest k state lines)

@@ -7,3 +7,4 @@ pub mod StepLaws
 pub mod Theorems
 pub mod Rests
 pub mod Accepted
+pub mod Examples

@@ -16,6 +16,9 @@ pub passed : {A : Type 0} (r l : ℕ) (o : Outcome A) {a : A} → passing r l o 
 passed zero l o e = (refl, e)
 passed (suc r) l o e = no-values (rw (eqb·suc-zero r) at e)
 
+pub refuses : {A : Type 0} (r l : ℕ) (o : Outcome A) → passing (suc r) l o ≡ refusal (suc r) l
+refuses r l o = rw (eqb·suc-zero r)
+
 pub settled-none : (ranges : Bool) → settled ranges 0 ≡ 0
 settled-none true = refl
 settled-none false = refl
