@@ -1,10 +1,10 @@
 -- The walk's answer, as reading's and as accepting's.
 use Prim.Native.Nat.{ℕ}
-use mathlib.Core.Path.{_≡_, refl, sym, ap, _∙_}
+use mathlib.Core.Path.{_≡_, refl}
 use mathlib.Core.List.{List}
 use mathlib.Core.Bool.{true, false}
 use Rattle.plan.specs.declared.Plan.{Plan}
-use Rattle.walk.specs.Walk.{Case, walkOf}
+use Rattle.walk.specs.Walk.{walkOf}
 use Rattle.casefile.specs.declared.Walk.{Walk}
 use Rattle.casefile.specs.declared.Walk.the-variants.{Whole, Refused}
 use Rattle.casefile.specs.declared.Reading.the-variants.{Read, Refused as ReadingRefused}
@@ -12,7 +12,7 @@ use Rattle.casefile.specs.declared.Accepting.{Accepting}
 use Rattle.casefile.specs.declared.Accepting.the-variants.{Accepted, Refused as AcceptingRefused}
 use Rattle.casefile.specs.Answers.{reading, readingOf, acceptingOf, accepting}
 use Rattle.casefile.specs.Stored.{rowsAfter, membersAfter}
-use Rattle.casefile.specs.Stretches.{WalkDone, WalkIs}
+use Rattle.casefile.specs.Stretches.{WalkIs}
 
 -- ---- reading
 module _ (s : List ℕ) (w : Walk) (rows members : List (List ℕ)) (walked : WalkIs false (walkOf false s) w rows members) where

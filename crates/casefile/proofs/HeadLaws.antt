@@ -1,27 +1,26 @@
 -- The terms: the invariant of the loop that reads them.
 use Prim.Native.Nat.{ℕ, zero, suc, _+_, _≤_, _<_}
-use mathlib.Core.Path.{_≡_, refl, sym, ap, subst, _∙_}
+use mathlib.Core.Path.{_≡_, refl, sym, ap, _∙_}
 use mathlib.Core.List.{List, [], _∷_, _++_}
-use mathlib.Core.Bool.{Bool, true, false, cond}
+use mathlib.Core.Bool.{Bool, true}
 use lib.ListN.{length, getD, take, drop, set, length-set}
 use lib.Seq.{take-suc-set, take-all, length-take-le, getD-take}
-use lib.Dec.{eqb}
 use native.Mathlib.Omega.{arith}
 use native.Mathlib.Numerals.{add-one}
 use borrow.Author.Tests.{eq-eqb, ne-eqb}
 use Rattle.fields.specs.declared.lines.Line.{Line}
 use Rattle.fields.specs.declared.lines.Line.the-variants.{Good, Wrong, Cut}
-use Rattle.fields.specs.Split.{hasOf, uptoOf, pastOf}
-use Rattle.fields.specs.Values.{Values, Held, found, misread}
+use Rattle.fields.specs.Split.{uptoOf, pastOf}
+use Rattle.fields.specs.Values.{Values, Held}
 use Rattle.fields.proofs.AnswerLaws.{is-good, is-wrong, is-cut, Answers}
 use Rattle.plan.specs.Acceptance.{termRule, unitRule, averageRule}
 use Rattle.walk.specs.Outcome.{refusal, settled}
 use Rattle.walk.specs.Terms.{termForms, termForm, termRefusal}
-use Rattle.walk.specs.Step.{Head, heading, table, Line as Step, wrong, right, withTerm, afterTerm, termLine, lineOf}
+use Rattle.walk.specs.Step.{heading, right, withTerm, afterTerm, termLine, lineOf}
 use Rattle.walk.specs.Walk.{start, walkFrom}
 use Rattle.walk.specs.Kept.{Each}
 use Rattle.walk.proofs.StepLaws.{each-next}
-use Rattle.casefile.specs.Stretches.{headed, HeadKept, HeadDone}
+use Rattle.casefile.specs.Stretches.{headed, HeadDone}
 use Rattle.casefile.proofs.StretchLaws.{line-cut, line-wrong, line-refused, line-passed, next-rest, next-within}
 
 -- a rule looks at no term but those before it

@@ -1,5 +1,5 @@
 -- The lines by their kinds: what the code reads of a line is what the walk reads of it.
-use Prim.Native.Nat.{ℕ, zero, suc, _+_, _≤_, _<_}
+use Prim.Native.Nat.{ℕ, zero, suc, _≤_, _<_}
 use mathlib.Core.Path.{_≡_, refl, sym, ap, _∙_}
 use mathlib.Core.List.{List, [], _∷_}
 use mathlib.Core.Bool.{Bool, true, false, cond}
@@ -13,8 +13,8 @@ use Rattle.fields.specs.declared.lines.Line.the-variants.{Good, Wrong, Cut}
 use Rattle.fields.specs.Text.{bytes}
 use Rattle.fields.specs.Split.{seekOf, hasOf, uptoOf, startsOf}
 use Rattle.fields.specs.Numbers.{Number, wholeOf, amountOf}
-use Rattle.fields.specs.Values.{Values, Held, found, misread, valuesOf, keyedOf, lineOf}
-use Rattle.fields.proofs.SplitLaws.{has-line, has-none, lacks}
+use Rattle.fields.specs.Values.{Values, Held, found, misread, valuesOf, keyedOf}
+use Rattle.fields.proofs.SplitLaws.{has-line, has-none}
 use Rattle.fields.proofs.KeyLaws.{starts-line}
 use Rattle.fields.proofs.AnswerLaws.{GoodLine, good-line, is-good, is-wrong, is-cut, Answers, answers-good, answers-wrong, answers-cut}
 use Rattle.walk.specs.Terms.{termForms, termForm}

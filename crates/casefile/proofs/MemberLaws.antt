@@ -1,5 +1,5 @@
 -- The members: the invariant of the loop that reads them, and the end.
-use Prim.Native.Nat.{ℕ, zero, suc, _+_, _-_, _≤_, _<_}
+use Prim.Native.Nat.{ℕ, suc, _+_, _-_, _≤_, _<_}
 use mathlib.Core.Path.{_≡_, refl, sym, ap, _∙_}
 use mathlib.Core.List.{List, [], _∷_, _++_}
 use mathlib.Core.Bool.{Bool, true, false, cond}
@@ -11,14 +11,13 @@ use native.Mathlib.Omega.{arith}
 use native.Mathlib.Nat.{eq-or-lt-of-le}
 use borrow.Author.Tests.{eq-eqb, ne-eqb, le-leb, lt-leb, eqb-true, eqb-false}
 use Rattle.fields.specs.Split.{hasOf, uptoOf, pastOf}
-use Rattle.fields.proofs.AnswerLaws.{GoodLine}
 use Rattle.plan.specs.declared.Plan.{Plan}
 use Rattle.plan.specs.declared.Member.{Member}
 use Rattle.plan.specs.Acceptance.{planFrom, memberRefusal}
-use Rattle.walk.specs.Outcome.{Outcome, values as held-values, refusal, settled}
-use Rattle.walk.specs.Lines.{Tail, person, end, surplus, neither, mostMembers, memberFrom, tailOf}
+use Rattle.walk.specs.Outcome.{values as held-values, refusal, settled}
+use Rattle.walk.specs.Lines.{Tail, end, mostMembers, memberFrom, tailOf}
 use Rattle.walk.specs.Step.{Head, people, ended as endedState, wrong, right, lastId, personRefusal, tailLine, lineOf, step}
-use Rattle.walk.specs.Walk.{Case, caseOf, closed, walkFrom}
+use Rattle.walk.specs.Walk.{caseOf, walkFrom}
 use Rattle.walk.proofs.OutcomeLaws.{settled-none}
 use Rattle.walk.proofs.LineLaws.{from-line, from-end}
 use Rattle.walk.proofs.StepLaws.{full-none}

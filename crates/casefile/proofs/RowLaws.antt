@@ -1,28 +1,28 @@
 -- The rows: the invariant of the loop that reads them.
-use Prim.Native.Nat.{ℕ, zero, suc, _+_, _-_, _≤_, _<_}
+use Prim.Native.Nat.{ℕ, _+_, _-_, _≤_, _<_}
 use mathlib.Core.Path.{_≡_, refl, sym, ap, _∙_}
 use mathlib.Core.List.{List, [], _∷_, _++_}
-use mathlib.Core.Bool.{Bool, true, false, cond, _&&_}
+use mathlib.Core.Bool.{Bool, true, _&&_}
 use lib.ListN.{length, getD, take, drop, set, length-set, length-append}
 use lib.Seq.{take-suc-set, take-all, getD-at}
-use lib.Dec.{leb, eqb}
+use lib.Dec.{leb}
 use native.Mathlib.Omega.{arith}
 use native.Mathlib.Numerals.{add-one}
 use native.Mathlib.Nat.{min-eq-left}
 use borrow.Author.Tests.{eq-eqb, ne-eqb, leb-true}
 use Rattle.fields.specs.declared.lines.Line.{Line}
 use Rattle.fields.specs.declared.lines.Line.the-variants.{Good, Wrong, Cut}
-use Rattle.fields.specs.Split.{hasOf, uptoOf, pastOf}
-use Rattle.fields.specs.Values.{Values, found, misread}
+use Rattle.fields.specs.Split.{uptoOf, pastOf}
+use Rattle.fields.specs.Values.{Values}
 use Rattle.fields.proofs.SplitLaws.{and-true-left, and-true-right}
 use Rattle.fields.proofs.AnswerLaws.{is-good, is-wrong, is-cut, Answers}
-use Rattle.plan.specs.Rules.{unless, firstOf, between}
+use Rattle.plan.specs.Rules.{firstOf, between}
 use Rattle.plan.specs.Acceptance.{rowRules, rowNumbers, weightBefore}
 use Rattle.plan.proofs.RuleLaws.{weight-passed}
 use Rattle.plan.proofs.Facts.{all-kept, kept}
 use Rattle.walk.specs.Outcome.{refusal, settled}
 use Rattle.walk.specs.Lines.{rowOf, ages, dueAge, rowRefusal}
-use Rattle.walk.specs.Step.{Head, table, people, wrong, right, withRow, afterRow, rowLine, lineOf}
+use Rattle.walk.specs.Step.{table, right, withRow, afterRow, rowLine, lineOf}
 use Rattle.walk.specs.Walk.{walkFrom}
 use Rattle.walk.specs.Kept.{Each}
 use Rattle.walk.proofs.StepLaws.{each-next}

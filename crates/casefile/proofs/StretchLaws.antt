@@ -1,7 +1,7 @@
 -- A line of the walk as a loop passes it, once for every kind of line. `s` are the bytes from the line on, `x` what its range rules say
 -- where they are settled.
-use Prim.Native.Nat.{ℕ, _+_, _≤_, _<_}
-use mathlib.Core.Path.{_≡_, refl, sym, ap, _∙_}
+use Prim.Native.Nat.{ℕ, _+_, _≤_}
+use mathlib.Core.Path.{_≡_, sym, _∙_}
 use mathlib.Core.List.{List}
 use mathlib.Core.Bool.{Bool, true, false}
 use lib.ListN.{length, drop, length-drop}
@@ -10,7 +10,7 @@ use native.Mathlib.Omega.{arith}
 use borrow.Author.Tests.{eq-eqb, ne-eqb}
 use Rattle.fields.specs.Split.{hasOf, uptoOf, pastOf}
 use Rattle.fields.proofs.AnswerLaws.{GoodLine}
-use Rattle.walk.specs.Outcome.{values, refusal, settled}
+use Rattle.walk.specs.Outcome.{refusal, settled}
 use Rattle.walk.specs.Step.{State, Line, wrong, right, lineOf, step}
 use Rattle.walk.specs.Walk.{closed, walkFrom}
 use Rattle.walk.proofs.OutcomeLaws.{settled-none}

@@ -1,17 +1,17 @@
 -- The parts one after the other: the table and the members after a heading, and the whole walk.
-use Prim.Native.Nat.{ℕ, _+_, _≤_, _<_}
-use mathlib.Core.Path.{_≡_, refl, sym, ap, _∙_}
-use mathlib.Core.List.{List, []}
-use mathlib.Core.Bool.{Bool, true, false}
+use Prim.Native.Nat.{ℕ, _≤_, _<_}
+use mathlib.Core.Path.{_≡_, _∙_}
+use mathlib.Core.List.{List}
+use mathlib.Core.Bool.{Bool, true}
 use lib.ListN.{length, drop}
 use native.Mathlib.Omega.{arith}
 use borrow.Author.Tests.{lt-ltb, le-ltb}
 use Rattle.plan.specs.declared.Plan.{Plan}
 use Rattle.plan.specs.Acceptance.{planFrom, planRefusal}
-use Rattle.walk.specs.Outcome.{Outcome, values, refusal}
+use Rattle.walk.specs.Outcome.{refusal}
 use Rattle.walk.specs.Terms.{termForms}
 use Rattle.walk.specs.Step.{Head, table}
-use Rattle.walk.specs.Walk.{Case, caseOf, start, walkFrom, walkOf}
+use Rattle.walk.specs.Walk.{caseOf, start, walkFrom, walkOf}
 use Rattle.walk.proofs.Accepted.{plan-kept}
 use Rattle.casefile.specs.declared.Part.{Part}
 use Rattle.casefile.specs.declared.Part.the-variants.{Done, Refused}
@@ -19,7 +19,7 @@ use Rattle.casefile.specs.declared.members.Count.{Count}
 use Rattle.casefile.specs.declared.members.Count.the-variants.{Members, Refused as CountRefused}
 use Rattle.casefile.specs.declared.Walk.{Walk}
 use Rattle.casefile.specs.declared.Walk.the-variants.{Whole, Refused as WalkRefused}
-use Rattle.casefile.specs.Stretches.{headed, tabled, HeadKept, HeadDone, HeadIs, RowsDone, RowsAre, MembersAre, MembersDone, WalkDone, WalkIs}
+use Rattle.casefile.specs.Stretches.{headed, tabled, HeadKept, HeadDone, HeadIs, RowsDone, RowsAre, MembersAre, WalkIs}
 use Rattle.casefile.proofs.MemberLaws.{Fits}
 
 -- ---- after a heading

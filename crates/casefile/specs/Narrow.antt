@@ -1,4 +1,4 @@
--- A row as the code keeps it: after its age four numbers, each in 32 bits.
+-- Rule 3.1, a row as the code keeps it: after its age four numbers, each in 32 bits.
 use Prim.Native.Nat.{ℕ, min}
 use mathlib.Core.Path.{_≡_}
 use mathlib.Core.List.{List, [], _∷_}

@@ -1,4 +1,4 @@
--- What the parts of the walk promise: each is a stretch of the walk, from a line on given bytes to a later line on the bytes from a place on.
+-- Rule 12.4, what the parts of the walk promise: each is a stretch of the walk, from a line on given bytes to a later line on the bytes from a place on.
 use Prim.Native.Nat.{ℕ, _+_, _≤_}
 use mathlib.Core.Path.{_≡_}
 use mathlib.Core.List.{List, []}
@@ -8,12 +8,11 @@ use lib.Dec.{eqb}
 use Rattle.plan.specs.declared.Plan.{Plan}
 use Rattle.plan.specs.declared.Member.{Member}
 use Rattle.plan.specs.Refusals.{bytesAfter, wrongCount}
-use Rattle.plan.specs.Acceptance.{planFrom}
 use Rattle.walk.specs.Outcome.{Outcome, values, refusal}
 use Rattle.walk.specs.Terms.{termForms, termRefusal}
 use Rattle.walk.specs.Lines.{ages, rowRefusal}
-use Rattle.walk.specs.Step.{Head, State, table, people}
-use Rattle.walk.specs.Walk.{Case, caseOf, start, walkFrom, walkOf}
+use Rattle.walk.specs.Step.{Head, table, people}
+use Rattle.walk.specs.Walk.{Case, caseOf, start, walkFrom}
 use Rattle.walk.specs.Kept.{Each}
 use Rattle.casefile.specs.declared.Part.{Part}
 use Rattle.casefile.specs.declared.Part.the-variants.{Done, Refused}

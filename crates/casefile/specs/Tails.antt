@@ -1,4 +1,4 @@
--- What the code answers of a line after the rows: what it is, with the place of its byte 10; or it is cut off before one.
+-- Rules 4.1, 4.6 and 12.3, what the code answers of a line after the rows: what it is, with the place of its byte 10; or it is cut off before one.
 use Prim.Native.Nat.{ℕ}
 use mathlib.Core.Path.{_≡_}
 use mathlib.Core.List.{List}

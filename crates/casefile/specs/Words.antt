@@ -1,4 +1,4 @@
--- What the code answers of a line that is a word: the code of the formula or of the method, 0 for none.
+-- Rules 2.4, 2.7 and 5.4, what the code answers of a line that is a word: the code of the formula or of the method, 0 for none.
 use Prim.Native.Nat.{ℕ, zero, suc}
 use mathlib.Core.List.{List, [], _∷_}
 use mathlib.Core.Bool.{Bool, cond}

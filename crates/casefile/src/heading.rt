@@ -68,7 +68,7 @@ fn word_code(line: &[u8], method: bool) -> u64
     }
 }
 
-// The line of the formula or of the method. Its code is written to the front of `values`.
+// The line of the formula or of the method. Where it is one, its code is written to the front of `values`.
 fn word_line(s: &[u8], method: bool, values: &mut Read) -> Line
     ensures { λ r. ⌜ r ≡ lineOf (wordOf method) (now (s .entry)) ⌝ }
     ensures { λ r. ⌜ ((e : ℕ) → r ≡ Good e → Held (wordOf method (uptoOf 10 (now (s .entry)))) 0 (now (values .exit))) ⌝ }
@@ -85,7 +85,7 @@ fn word_line(s: &[u8], method: bool, values: &mut Read) -> Line
     Line::Good(e)
 }
 
-// The line of the term with k before it. Its value is written to the front of `values`.
+// The line of the term with k before it. Where its form is right its value is written to the front of `values`.
 fn term_line(s: &[u8], k: usize, values: &mut Read) -> Line
     ensures { λ r. ⌜ r ≡ lineOf (termForm k) (now (s .entry)) ⌝ }
     ensures { λ r. ⌜ ((e : ℕ) → r ≡ Good e → Held (termForm k (uptoOf 10 (now (s .entry)))) 0 (now (values .exit))) ⌝ }
@@ -110,7 +110,7 @@ fn term_refusal(ranges: bool, k: usize, terms: &Terms, v: u64) -> u64
     if ranges { term_rule(k, terms, v) } else { 0 }
 }
 
-// Reads the terms, and settles their ranges too where that is asked for.
+// Reads the terms, and settles their ranges too where that is asked for. After a refusal `terms` is left open.
 pub(crate) fn head_lines(s: &[u8], ranges: bool, terms: &mut Terms) -> Part
     ensures { λ r. ⌜ HeadIs ranges (now (s .entry)) r (now (terms .exit)) ⌝ }
 {

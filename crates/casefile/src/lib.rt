@@ -37,8 +37,8 @@ enum Walk {
     Refused(u64, u64),
 }
 
-// One walk over the lines, for their form alone or for their ranges too. The two arrays are left open after a refusal, and
-// where the ranges are not settled.
+// One walk over the lines, for their form alone or for their ranges too. Both arrays are left open after a refusal, and
+// the rows where the ranges are not settled.
 fn walk_lines(case: &[u8], ranges: bool, rows: &mut Rows, members: &mut Members) -> Walk
     ensures { λ r. ⌜ WalkIs ranges (walkOf ranges (now (case .entry))) r (now (rows .exit)) (now (members .exit)) ⌝ }
 {
@@ -52,7 +52,7 @@ fn walk_lines(case: &[u8], ranges: bool, rows: &mut Rows, members: &mut Members)
     }
 }
 
-// The walk from the table on, after a heading.
+// The walk from the table on, after a heading. It leaves the arrays open where walk_lines does.
 fn walk_table(
     s: &[u8],
     line: u64,

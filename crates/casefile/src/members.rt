@@ -31,8 +31,8 @@ pub enum Line {
     Cut,
 }
 
-// A line after the rows. When the members are full one more is a surplus (refusal 27). A member's id, entry age, age and
-// salary, or the end line's count, are written to the front of `values`.
+// A line after the rows. When the members are full one more is a surplus (refusal 27). Where the form is right a
+// member's id, entry age, age and salary, or the end line's count, are written to the front of `values`.
 fn tail_line(s: &[u8], full: bool, values: &mut Read) -> Line
     ensures { λ r. ⌜ r ≡ toldOf full (now (s .entry)) ⌝ }
     ensures { λ r. ⌜ Tails·Read full (now (s .entry)) r (now (values .exit)) ⌝ }

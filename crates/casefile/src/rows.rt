@@ -20,7 +20,7 @@ ghost use Rattle.casefile.specs.Stored.{each};
 ghost use Rattle.casefile.specs.Narrow.{fourOf, RowHeld, narrowOf};
 ghost use Rattle.casefile.specs.Stretches.{RowsAre};
 
-// The line of an age's row. Its age and its four numbers are written to `values`.
+// The line of an age's row. Where its form is right its age and its four numbers are written to `values`.
 fn row_line(s: &[u8], age: u64, values: &mut Read) -> Line
     ensures { λ r. ⌜ r ≡ lineOf (rowOf age) (now (s .entry)) ⌝ }
     ensures { λ r. ⌜ ((e : ℕ) → r ≡ Good e → RowHeld (rowOf age (uptoOf 10 (now (s .entry)))) (now (values .exit))) ⌝ }

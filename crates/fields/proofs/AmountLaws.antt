@@ -1,21 +1,21 @@
 -- An amount: the dollars up to the point, and after it two digits and byte 10. `w` is what follows the point.
-use Prim.Native.Nat.{ℕ, zero, suc, _+_, _-_, _*_, _≤_, _<_}
+use Prim.Native.Nat.{ℕ, suc, _+_, _-_, _*_, _≤_, _<_}
 use mathlib.Core.Path.{_≡_, refl, sym, ap, _∙_}
 use mathlib.Core.List.{List, [], _∷_, _++_}
-use mathlib.Core.Bool.{Bool, true, false, cond, _&&_}
-use lib.ListN.{length, getD, drop, length-append, length-drop}
+use mathlib.Core.Bool.{Bool, true, false, cond}
+use lib.ListN.{length, getD, drop, length-drop}
 use lib.Seq.{drop-cons, getD-drop}
 use lib.Dec.{eqb}
 use native.Mathlib.Omega.{arith}
-use borrow.Author.Tests.{eq-eqb, eqb-true, le-leb}
+use borrow.Author.Tests.{eqb-true}
 use Rattle.fields.specs.declared.numbers.Field.{Field}
 use Rattle.fields.specs.declared.numbers.Field.the-variants.{Is, NotField}
 use Rattle.fields.specs.Split.{seekOf, hasOf, uptoOf, pastOf}
 use Rattle.fields.specs.Numbers.{Number, value, malformed, isDigit, digits, inCents, digitsOf, wholeOf, amountOf}
 use Rattle.fields.specs.Values.{placed, fieldOf}
-use Rattle.fields.proofs.SplitLaws.{off, and-true-left, lacks, after, here, cut}
+use Rattle.fields.proofs.SplitLaws.{off, after, here, cut}
 use Rattle.fields.proofs.FieldLaws.{digits-off, lacks-digits}
-use Rattle.fields.proofs.LineLaws.{Before10, field-is, field-before, field-not}
+use Rattle.fields.proofs.LineLaws.{field-is, field-before, field-not}
 
 either-none : (t : Bool) (e : ℕ) → NotField ≡ cond t (placed malformed e) NotField
 either-none true e = refl

@@ -1,10 +1,10 @@
 -- A number that is read digit by digit, up to the byte that ends it.
-use Prim.Native.Nat.{ℕ, zero, suc, _+_, _-_, _*_, _^_, _≤_, _<_}
+use Prim.Native.Nat.{ℕ, _+_, _-_, _*_, _^_, _≤_, _<_}
 use mathlib.Core.Path.{_≡_, refl, sym, ap, _∙_}
 use mathlib.Core.List.{List, [], _∷_, _++_, append-assoc, append-nil}
-use mathlib.Core.Bool.{Bool, true, false, cond, not, _&&_}
+use mathlib.Core.Bool.{Bool, true, false, cond, _&&_}
 use mathlib.Core.Logic.{⊎-elim}
-use lib.ListN.{length, getD, take, drop, drop-of-length-le, length-append, List·getD-append}
+use lib.ListN.{length, getD, drop, drop-of-length-le, length-append, List·getD-append}
 use lib.Seq.{drop-cons, getD-drop}
 use lib.Dec.{leb, ltb, eqb}
 use native.Mathlib.Omega.{arith}
@@ -12,7 +12,7 @@ use native.Mathlib.Numerals.{add-one}
 use native.Mathlib.Nat.{add-zero, eq-or-lt-of-le, pow-succ', pow-le-pow-right, mul-assoc, mul-le-mul-right, lt-of-lt-of-le}
 use borrow.Author.Tests.{eq-eqb, ne-eqb, le-leb, lt-leb, leb-true, lt-ltb, le-ltb}
 use Rattle.fields.specs.declared.numbers.Field.the-variants.{Is, NotField}
-use Rattle.fields.specs.Split.{seekOf, hasOf, uptoOf, pastOf}
+use Rattle.fields.specs.Split.{seekOf, hasOf, uptoOf}
 use Rattle.fields.specs.Numbers.{Number, value, malformed, isDigit, digits, number, digitsOf, wholeForm, wholeOf}
 use Rattle.fields.specs.Values.{placed, fieldOf}
 use Rattle.fields.proofs.SplitLaws.{and-true-left, and-true-right, and-false, lacks, After, after, here, has-lacks}

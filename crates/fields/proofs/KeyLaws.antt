@@ -1,12 +1,12 @@
 -- A line with its key: what the reader of its values answers is the line's answer.
-use Prim.Native.Nat.{ℕ, zero, suc, _+_, _≤_, _<_}
+use Prim.Native.Nat.{ℕ, _+_}
 use mathlib.Core.Path.{_≡_, refl, sym, ap, _∙_}
 use mathlib.Core.List.{List, [], _∷_, _++_}
-use mathlib.Core.Bool.{Bool, true, false, cond, not, _&&_}
-use lib.ListN.{length, take, drop}
+use mathlib.Core.Bool.{Bool, true, false, cond, _&&_}
+use lib.ListN.{length, drop}
 use lib.Dec.{eqb}
 use native.Mathlib.Omega.{arith}
-use borrow.Author.Tests.{eqb-true, ne-eqb, eqb-false, not-true}
+use borrow.Author.Tests.{eqb-true, ne-eqb, eqb-false}
 use Rattle.fields.specs.declared.lines.Place.{Place}
 use Rattle.fields.specs.declared.lines.Place.the-variants.{At, Nowhere}
 use Rattle.fields.specs.declared.lines.Line.{Line}

@@ -1,21 +1,19 @@
 -- The fields of a line: what stands before a byte b of the line stands there in the bytes too.
-use Prim.Native.Nat.{ℕ, zero, suc, _+_, _-_, _*_, _≤_, _<_}
+use Prim.Native.Nat.{ℕ, _+_, _-_, _≤_, _<_}
 use mathlib.Core.Path.{_≡_, refl, sym, ap, _∙_}
 use mathlib.Core.List.{List, [], _∷_, _++_, append-assoc, append-nil}
 use mathlib.Core.Bool.{Bool, true, false, cond, not, _&&_}
-use lib.ListN.{length, getD, take, drop, length-append, length-drop, drop-of-length-le}
-use lib.Seq.{take-all, drop-drop, getD-drop}
+use lib.ListN.{length, getD, drop, length-append, length-drop}
+use lib.Seq.{take-all, drop-drop}
 use lib.Dec.{leb, ltb, eqb}
 use native.Mathlib.Omega.{arith}
-use native.Mathlib.Numerals.{add-one}
-use native.Mathlib.Nat.{add-zero}
-use borrow.Author.Tests.{eq-eqb, ne-eqb, eqb-true, eqb-false, ltb-true, ltb-false, leb-true}
+use borrow.Author.Tests.{ne-eqb, ltb-true, ltb-false, leb-true}
 use Rattle.fields.specs.declared.numbers.Field.{Field}
 use Rattle.fields.specs.declared.numbers.Field.the-variants.{Is, NotField}
 use Rattle.fields.specs.Split.{seekOf, hasOf, uptoOf, pastOf}
-use Rattle.fields.specs.Numbers.{Number, value, malformed, isDigit, digits, number, inCents, digitsOf, wholeForm, wholeOf, amountOf}
-use Rattle.fields.specs.Values.{Values, found, misread, before, valuesOf, placed, fieldOf}
-use Rattle.fields.proofs.SplitLaws.{off, and-true-left, and-true-right, lacks, lacks-both, lacks-has, has-lacks, After, after, Here, here, Cut, cut}
+use Rattle.fields.specs.Numbers.{Number, value, malformed, digits, number, digitsOf, wholeForm, wholeOf}
+use Rattle.fields.specs.Values.{before, placed, fieldOf}
+use Rattle.fields.proofs.SplitLaws.{off, and-true-left, and-true-right, lacks, lacks-both, lacks-has, after, here, cut}
 use Rattle.fields.proofs.FieldLaws.{lacks-digits, digits-small}
 
 -- ---- a byte b before the first byte 10

@@ -12,8 +12,8 @@ use Rattle.fields.specs.declared.numbers.Field.the-variants.{Is, NotFiel
 use Rattle.fields.specs.declared.lines.Place.{Place}
 use Rattle.fields.specs.declared.lines.Place.the-variants.{At, Nowhere}
 use Rattle.fields.specs.Split.{seekOf, hasOf, uptoOf, pastOf}
-use Rattle.fields.specs.Numbers.{Number, value, malformed, wholeOf}
-use Rattle.fields.specs.Values.{Values, Held, found, misread, before, valuesOf, placed, fieldOf, ending, endOf}
+use Rattle.fields.specs.Numbers.{Number, value, wholeOf}
+use Rattle.fields.specs.Values.{Values, Held, found, misread, before, valuesOf, fieldOf, ending, endOf}
 use Rattle.fields.proofs.LineLaws.{field-is, field-before, field-not, placed-not}
 
 -- some values before others

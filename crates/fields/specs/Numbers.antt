@@ -24,6 +24,7 @@ abbrev pub number : ℕ → List ℕ → ℕ
 number n [] = n
 number n (b ∷ s) = number (n * 10 + (b - 48)) s
 
+-- all digits: their number
 unfoldable pub digitsOf : List ℕ → Number
 digitsOf s = cond (digits s) (value (number 0 s)) malformed
 

@@ -1,14 +1,8 @@
--- A plan and a member that stand as numbers in a row, and the figures that are put out so.
+-- The figures of a member, put out as numbers in a row.
 use Prim.Native.Nat.{ℕ}
 use mathlib.Core.List.{List, [], _∷_}
-use lib.ListN.{getD}
-use Rattle.plan.specs.declared.Member.{Member}
 use Rattle.costs.specs.declared.Valuation.{Valuation}
 use Rattle.costs.specs.declared.Valuation.the-variants.{Valued, Refused}
-
--- rule 4.1: in the order of a member line
-abbrev pub memberOf : List ℕ → Member
-memberOf l = record { id = getD l 0 0; entry = getD l 1 0; age = getD l 2 0; salary = getD l 3 0 }
 
 -- the refusal's number, 0 for none
 abbrev pub refusedBy : Valuation → ℕ

@@ -5,7 +5,7 @@ use casefile::Accepting;
 use casefile::Reading;
 use costs::Valuation;
 use plan::Member;
-use plan::Plan;
+use plan::terms::plan_from;
 use valuation::Answer;
 ghost use mathlib.Core.Path.{_≡_};
 ghost use mathlib.Core.Bool.{false};
@@ -17,7 +17,8 @@ ghost use Rattle.costs.specs.Valuation.{valuation};
 ghost use Rattle.valuation.specs.Lines.{refusalLine};
 ghost use Rattle.valuation.specs.Answers.{fitting, valuedOf, buffer};
 ghost use Rattle.kuyeshan.specs.Answers.{numberOf, lineOf, writtenOf};
-ghost use Rattle.kuyeshan.specs.Values.{memberOf, refusedBy, figuresAfter};
+ghost use Rattle.walk.specs.Lines.{memberFrom};
+ghost use Rattle.kuyeshan.specs.Values.{refusedBy, figuresAfter};
 
 // Rule 5.1: reads a case file for its form.
 #[no_mangle]
@@ -117,10 +118,10 @@ pub extern "C" fn kuyeshan_value_member(
     member: &[u64; 4],
     figures: &mut [u64; 4],
 ) -> u64
-    ensures { λ r. ⌜ r ≡ refusedBy (valuation (planFrom (now (plan .entry))) (now (rows .entry)) (memberOf (now (member .entry)))) ⌝ }
-    ensures { λ _. ⌜ now (figures .exit) ≡ figuresAfter (valuation (planFrom (now (plan .entry))) (now (rows .entry)) (memberOf (now (member .entry)))) (now (figures .entry)) ⌝ }
+    ensures { λ r. ⌜ r ≡ refusedBy (valuation (planFrom (now (plan .entry))) (now (rows .entry)) (memberFrom (now (member .entry)))) ⌝ }
+    ensures { λ _. ⌜ now (figures .exit) ≡ figuresAfter (valuation (planFrom (now (plan .entry))) (now (rows .entry)) (memberFrom (now (member .entry)))) (now (figures .entry)) ⌝ }
 {
-    let p = plan_of(plan);
+    let p = plan_from(plan);
     let m = member_of(member);
     match costs::value_member(p, *rows, m) {
         Valuation::Valued(f) => {
@@ -131,23 +132,8 @@ pub extern "C" fn kuyeshan_value_member(
     }
 }
 
-fn plan_of(numbers: &[u64; 8]) -> Plan
-    ensures { λ p. ⌜ p ≡ planFrom (now (numbers .entry)) ⌝ }
-{
-    Plan {
-        interest: numbers[0],
-        retire: numbers[1],
-        formula: numbers[2],
-        unit: numbers[3],
-        average: numbers[4],
-        method: numbers[5],
-        assets: numbers[6],
-        years: numbers[7],
-    }
-}
-
 fn member_of(numbers: &[u64; 4]) -> Member
-    ensures { λ m. ⌜ m ≡ memberOf (now (numbers .entry)) ⌝ }
+    ensures { λ m. ⌜ m ≡ memberFrom (now (numbers .entry)) ⌝ }
 {
     Member {
         id: numbers[0],

@@ -1,5 +1,5 @@
 // A plan, its rows and a member handed in as plain values (rules 5.3 to 5.5): the ranges of RULES sections 2, 3 and 4,
-// and pay and benefit, section 7. rules.rt has the rules of single lines, acceptance.rt their order, benefit.rt the
+// and pay and benefit, section 7. rules.rt has the rules of single lines, terms.rt the terms by their places, acceptance.rt the order, benefit.rt the
 // accrued benefit. specs/ has what every contract is an equation with, the lists of the rules in Rules and Acceptance,
 // pay and benefit in Benefit and Weights; and in Rising the law that the benefit never falls. A formula or method is a
 // code: 1 flat, 2 career, 3 final; 1 AB, 2 BD, 3 BP, 4 CD, 5 CP; so a field that was never set is refused. Money is in

@@ -5,6 +5,7 @@ use mathlib.Core.List.{List, _++_}
 use Prim.Native.Nat.{ℕ}
 use lib.Dec.{leb}
 use lib.ListN.{length, drop}
+use Rattle.plan.specs.Refusals.{noRoom}
 use Rattle.walk.specs.Outcome.{Outcome, values, refusal, andThen}
 use Rattle.casefile.specs.Answers.{acceptingOf}
 use Rattle.valuation.specs.declared.Answer.{Answer}
@@ -13,7 +14,7 @@ use Rattle.valuation.specs.Lines.{printed, refusalLine}
 
 -- rule 12.3, refusal 30: the lines need more room than there is
 unfoldable pub fitting : (room : ℕ) → List ℕ → Outcome (List ℕ)
-fitting room lines = cond (leb (length lines) room) (values lines) (refusal 30 0)
+fitting room lines = cond (leb (length lines) room) (values lines) (refusal noRoom 0)
 
 -- rule 12.4, a case file: its first refusal, 30 after all others; else the lines
 unfoldable pub valuedOf : (room : ℕ) → List ℕ → Outcome (List ℕ)

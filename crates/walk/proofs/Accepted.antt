@@ -13,7 +13,7 @@ use Rattle.plan.specs.declared.Member.{Member}
 use Rattle.plan.specs.Rules.{firstOf}
 use Rattle.plan.specs.Acceptance.{TermRule, termRules, termRule, termsOf, judged, headRules, rowRules, rowNumbers, rowOf as rowIn, weightBefore, rowsRefusal, planRefusal, planFrom}
 use Rattle.plan.proofs.Facts.{All-kept, all-kept, kept-all}
-use Rattle.walk.specs.Outcome.{Outcome, values, refusal}
+use Rattle.walk.specs.Outcome.{values, refusal}
 use Rattle.walk.specs.Terms.{termForms, termRefusal}
 use Rattle.walk.specs.Lines.{ages, dueAge, rowRefusal}
 use Rattle.walk.specs.Step.{Head, State, heading, table, people, ended, lastId, personRefusal}

@@ -1,13 +1,13 @@
 -- What holds of the step holds of the walk: one induction over the lines for each kind of law.
-use Prim.Native.Nat.{ℕ, zero, suc, _+_, _≤_, _<_}
-use mathlib.Core.Path.{_≡_, refl, sym, ap, _∙_}
+use Prim.Native.Nat.{ℕ, zero, suc, _+_, _<_}
+use mathlib.Core.Path.{_≡_, refl, sym, ap}
 use mathlib.Core.List.{List, [], _∷_}
-use mathlib.Core.Bool.{Bool, true, false, cond}
+use mathlib.Core.Bool.{Bool, true, false}
 use mathlib.Core.Logic.{_⊎_, inl, inr, ⊎-elim, _↔_}
 use lib.ListN.{length}
 use native.Mathlib.Omega.{arith}
 use native.Mathlib.Nat.{add-zero}
-use Rattle.walk.specs.Outcome.{Outcome, values, refusal, andThen, passing, settled}
+use Rattle.walk.specs.Outcome.{Outcome, values, refusal, andThen, settled}
 use Rattle.walk.specs.Step.{State, Line, wrong, right, lineOf, judged, step}
 use Rattle.walk.specs.Walk.{Case, nextOf, closed, folded}
 use Rattle.walk.specs.Answers.{RangeNumber}

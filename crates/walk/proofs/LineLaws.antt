@@ -1,18 +1,18 @@
 -- The lines of some bytes, one at a time.
-use Prim.Native.Nat.{ℕ, zero, suc, _+_}
-use mathlib.Core.Path.{_≡_, refl, sym, ap, _∙_}
+use Prim.Native.Nat.{ℕ, suc, _+_}
+use mathlib.Core.Path.{_≡_, refl, sym, _∙_}
 use mathlib.Core.List.{List, [], _∷_}
 use mathlib.Core.Bool.{Bool, true, false, cond}
 use lib.ListN.{length}
-use lib.Dec.{ltb, eqb, leb·suc-suc}
+use lib.Dec.{eqb, leb·suc-suc}
 use native.Mathlib.Omega.{arith}
 use native.Mathlib.Numerals.{add-one}
 use native.Mathlib.Nat.{add-zero}
 use borrow.Author.Tests.{lt-ltb}
-use Rattle.fields.specs.Split.{seekOf, hasOf, uptoOf, pastOf}
+use Rattle.fields.specs.Split.{hasOf, uptoOf, pastOf}
 use Rattle.fields.proofs.SplitLaws.{off}
 use Rattle.fields.proofs.LineLaws.{upto-all}
-use Rattle.walk.specs.Outcome.{Outcome, values, refusal, andThen}
+use Rattle.walk.specs.Outcome.{Outcome, andThen}
 use Rattle.walk.specs.Step.{State, step}
 use Rattle.walk.specs.Walk.{Case, longer, linesOf, restOf, nextOf, closed, folded, walkFrom}
 use Rattle.walk.proofs.OutcomeLaws.{then-then}

@@ -1,6 +1,6 @@
 -- Laws of outcomes: what a value says of the way to it, and which refusals there are.
 use Prim.Native.Nat.{ℕ, zero, suc}
-use mathlib.Core.Path.{_≡_, refl, sym}
+use mathlib.Core.Path.{_≡_, refl}
 use mathlib.Core.Bool.{Bool, true, false}
 use lib.Dec.{eqb·suc-zero}
 use native.Mathlib.Omega.{arith}
@@ -37,10 +37,6 @@ Only P (values a) = Unit {0}
 Only P (refusal n l) = P n l
 
 module _ {A : Type 0} (P : ℕ → ℕ → Type 0) where
-  pub only-weaker : (Q : ℕ → ℕ → Type 0) → ((n l : ℕ) → P n l → Q n l) → (o : Outcome A) → Only P o → Only Q o
-  only-weaker Q f (values a) h = tt
-  only-weaker Q f (refusal n l) h = f n l h
-
   pub only-then : {B : Type 0} (o : Outcome B) (f : B → Outcome A) → Only P o → ((b : B) → o ≡ values b → Only P (f b)) → Only P (andThen o f)
   only-then (values b) f h k = k b refl
   only-then (refusal n l) f h k = h

@@ -1,13 +1,12 @@
 -- The range rules, by the numbers that they give: 0 where a rule is kept, and else a number of ranges of its part.
-use Prim.Native.Nat.{ℕ, zero, suc, _+_, _<_}
-use mathlib.Core.Path.{_≡_, refl, sym, ap}
+use Prim.Native.Nat.{ℕ, zero, suc, _+_}
+use mathlib.Core.Path.{_≡_, refl}
 use mathlib.Core.List.{List, [], _∷_, _++_}
 use mathlib.Core.Bool.{Bool, true, false, cond, _&&_}
 use mathlib.Core.Logic.{_⊎_, inl, inr}
-use lib.ListN.{length, getD, List·getD-eq-default}
+use lib.ListN.{length, getD}
 use lib.Dec.{leb, ltb, eqb, eqb·suc-zero}
 use native.Mathlib.Omega.{arith}
-use borrow.Author.Tests.{ltb-true, ltb-false}
 use Rattle.fields.specs.Text.{bytes}
 use Rattle.fields.specs.Split.{sameOf}
 use Rattle.fields.specs.Values.{Values, found, misread}
@@ -15,7 +14,7 @@ use Rattle.plan.specs.declared.Plan.{Plan}
 use Rattle.plan.specs.declared.Member.{Member}
 use Rattle.plan.specs.Rules.{unless, firstOf, between}
 use Rattle.plan.specs.Benefit.{B}
-use Rattle.plan.specs.Acceptance.{TermRule, termRules, termRule, formulaIn, formulaRule, methodRule, rowRules, rowNumbers, weightBefore, fieldRules, benefitRules, memberRefusal}
+use Rattle.plan.specs.Acceptance.{TermRule, termRules, formulaIn, formulaRule, methodRule, rowRules, rowNumbers, weightBefore, fieldRules, benefitRules, memberRefusal}
 use Rattle.walk.specs.Terms.{formulaOf, methodOf, termForms, termForm, termRefusal}
 use Rattle.walk.specs.Lines.{dueAge, rowRefusal}
 use Rattle.walk.specs.Answers.{Part, in-heading, in-table, in-members, RangeOf, of-a-term, of-average, of-a-rate, of-death, of-weight, of-id, of-entry, of-age, of-salary, of-benefit}

@@ -1,9 +1,9 @@
 -- A refusal at line l rests on the bytes through the end of line l.
-use Prim.Native.Nat.{ℕ, zero, suc, _+_, _≤_, _<_}
+use Prim.Native.Nat.{ℕ, zero, suc, _+_, _<_}
 use mathlib.Core.Path.{_≡_, refl, sym, ap, _∙_}
 use mathlib.Core.List.{List, [], _∷_, _++_, append-assoc, append-nil}
 use mathlib.Core.Bool.{Bool, true, false, cond}
-use lib.ListN.{length, take, drop, drop-of-length-le}
+use lib.ListN.{length, take, drop-of-length-le}
 use lib.Seq.{take-all}
 use lib.Dec.{eqb, ltb, eqb·suc-zero}
 use native.Mathlib.Omega.{arith}
@@ -12,7 +12,7 @@ use borrow.Author.Tests.{ltb-false, le-ltb}
 use Rattle.fields.specs.Split.{seekOf, hasOf, uptoOf, pastOf}
 use Rattle.fields.proofs.SplitLaws.{off, lacks-both, lacks-has, has-lacks}
 use Rattle.walk.specs.Outcome.{Outcome, values, refusal, andThen}
-use Rattle.walk.specs.Step.{State, heading, table, people, ended, lineOf, judged, step}
+use Rattle.walk.specs.Step.{State, heading, table, people, ended, lineOf, step}
 use Rattle.walk.specs.Walk.{Case, linesOf, restOf, closed, start, walkFrom, walkOf}
 use Rattle.walk.specs.Answers.{through, RestsOnLines}
 use Rattle.walk.proofs.OutcomeLaws.{no-values, settled-none}

@@ -1,6 +1,6 @@
 -- The laws of the step: each kind of line, once.
-use Prim.Native.Nat.{ℕ, zero, suc, _+_, _≤_, _<_}
-use mathlib.Core.Path.{_≡_, refl, sym, ap, _∙_}
+use Prim.Native.Nat.{ℕ, _+_, _≤_, _<_}
+use mathlib.Core.Path.{_≡_, refl}
 use mathlib.Core.List.{List, [], _∷_, _++_, append-assoc, append-nil}
 use mathlib.Core.Bool.{Bool, true, false, cond}
 use mathlib.Core.Logic.{_⊎_, inl, inr, ⊎-elim, _↔_}
@@ -18,9 +18,9 @@ use Rattle.plan.specs.Refusals.{wrongCount}
 use Rattle.plan.specs.Acceptance.{planFrom}
 use Rattle.walk.specs.Terms.{termForms, termForm, termRefusal}
 use Rattle.walk.specs.Lines.{rowOf, ages, dueAge, rowRefusal, Tail, person, end, surplus, neither, endMade, mostMembers, tailOf}
-use Rattle.walk.specs.Step.{Head, State, heading, table, people, ended, Line, wrong, right, withTerm, afterTerm, termLine, withRow, afterRow, rowLine, lastId, personRefusal, tailLine, lineOf}
+use Rattle.walk.specs.Step.{Head, State, heading, table, people, ended, Line, wrong, right, withTerm, termLine, withRow, rowLine, lastId, personRefusal, tailLine, lineOf}
 use Rattle.walk.specs.Kept.{EachAfter, Each, Kept}
-use Rattle.walk.specs.Answers.{Part, in-heading, in-table, in-members, past-end, FormOf, term-form, row-form, count, tail-form, surplus as surplus-form, after-end, RangeNumber, of-line}
+use Rattle.walk.specs.Answers.{Part, in-heading, in-table, in-members, past-end, FormOf, term-form, row-form, count, tail-form, surplus as surplus-form, after-end, of-line}
 use Rattle.walk.proofs.RangeLaws.{Ranged, row-ranged, member-ranged, term-ranged}
 use Rattle.walk.proofs.FoldLaws.{Right, InOrder}
 

@@ -1,5 +1,5 @@
 -- The statements of specs/Answers.antt on which refusals there are.
-use Prim.Native.Nat.{ℕ, zero, suc, _+_, _≤_, _<_}
+use Prim.Native.Nat.{ℕ, zero, suc, _+_, _<_}
 use mathlib.Core.Path.{_≡_, refl, sym, _∙_}
 use mathlib.Core.List.{List}
 use mathlib.Core.Bool.{Bool, true, false, cond}
@@ -9,11 +9,11 @@ use lib.Dec.{ltb, eqb, eqb·suc-zero}
 use native.Mathlib.Omega.{arith}
 use Rattle.fields.proofs.SplitLaws.{off}
 use Rattle.plan.specs.Refusals.{bytesAfter}
-use Rattle.walk.specs.Outcome.{Outcome, values, refusal, settled}
+use Rattle.walk.specs.Outcome.{Outcome, values, refusal}
 use Rattle.walk.specs.Terms.{termForms}
 use Rattle.walk.specs.Step.{State, heading, table, people, ended, Line, wrong, right, lineOf, judged, step}
 use Rattle.walk.specs.Walk.{Case, linesOf, restOf, closed, start, walkFrom, walkOf}
-use Rattle.walk.specs.Answers.{Part, FormOf, term-cut, row-cut, tail-cut, after-end, RangeOf, FormNumber, too-large, of-line, LineOf, Placed, no-line, of-form, of-range, RefusalsArePlaced, ReadingGivesForm, ReadingRefuses, AcceptingRefuses}
+use Rattle.walk.specs.Answers.{FormOf, term-cut, row-cut, tail-cut, after-end, RangeOf, FormNumber, too-large, of-line, LineOf, Placed, no-line, of-form, of-range, RefusalsArePlaced, ReadingGivesForm, ReadingRefuses, AcceptingRefuses}
 use Rattle.walk.proofs.OutcomeLaws.{settled-none, Only}
 use Rattle.walk.proofs.LineLaws.{along}
 use Rattle.walk.proofs.FoldLaws.{Right, along-only, Before, NoLater, along-no-later}

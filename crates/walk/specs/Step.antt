@@ -1,4 +1,4 @@
--- One line of a case file, after the lines before it.
+-- One line of a case file, after the lines before it: rules 2.1, 3.1, 4.1 and 4.6, with the refusals of rule 12.3.
 use Prim.Native.Nat.{ℕ}
 use mathlib.Core.List.{List, [], _∷_, _++_}
 use mathlib.Core.Bool.{Bool, cond}
@@ -25,12 +25,12 @@ pub data State : Type 0 where
   ended : Head → (members : List Member) → State
 
 -- a line: wrong in its form, by its number, with what its range rules refuse before that; or right, with what its range rules refuse and
--- the state after it. 0 is no refusal
+-- the state after it. 0 is no refusal. No rule refuses a range before a form yet
 pub data Line : Type 0 where
   wrong : (range number : ℕ) → Line
   right : (range : ℕ) → State → Line
 
--- ---- a term: refusal 10, wrong in its form
+-- ---- rule 2.1, a term: refusal 10, wrong in its form
 abbrev pub withTerm : Head → ℕ → Head
 withTerm h v = record { terms = h .terms ++ v ∷ []; rows = h .rows }
 
@@ -41,7 +41,7 @@ abbrev pub termLine : Head → Values → Line
 termLine h misread = wrong 0 planForm
 termLine h (found vs) = right (termRefusal (h .terms) (getD vs 0 0)) (afterTerm (withTerm h (getD vs 0 0)))
 
--- ---- a row: refusal 10, wrong in its form or in its age
+-- ---- rule 3.1, a row: refusal 10, wrong in its form or in its age
 abbrev pub withRow : Head → List ℕ → Head
 withRow h row = record { terms = h .terms; rows = h .rows ++ row ∷ [] }
 
@@ -52,7 +52,7 @@ abbrev pub rowLine : Head → Values → Line
 rowLine h misread = wrong 0 planForm
 rowLine h (found row) = right (rowRefusal (h .rows) row) (afterRow (withRow h row))
 
--- ---- a member or the end: refusals 4, 20 and 27
+-- ---- rules 4.1 and 4.6, a member or the end: refusals 4, 20 and 27
 -- rule 4.2: the id of the last of some members, 0 where there is none
 abbrev pub lastId : List Member → ℕ
 lastId [] = 0
@@ -68,7 +68,7 @@ tailLine h members (end n) = cond (eqb n (length members)) (right 0 (ended h mem
 tailLine h members surplus = wrong 0 surplusMember
 tailLine h members neither = wrong 0 memberForm
 
--- ---- any line; `ahead` is the line after it, as far as it goes. Refusal 3: a line after the end
+-- ---- any line; `ahead` is the line after it, as far as it goes; no rule looks at it yet. Refusal 3: a line after the end
 unfoldable pub lineOf : State → (line ahead : List ℕ) → Line
 lineOf (heading h) line ahead = termLine h (termForm (length (h .terms)) line)
 lineOf (table h) line ahead = rowLine h (rowOf (dueAge (h .rows)) line)

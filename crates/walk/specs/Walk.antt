@@ -44,10 +44,11 @@ folded ranges rest k state [] = values state
 folded ranges rest k state (line ∷ lines) =
     andThen (step ranges k state line (nextOf rest lines)) (λ next. folded ranges rest (k + 1) next lines)
 
--- no line is left at line k. Refusal 2: one is due; refusal 3: bytes after the end line, at the line after it
+-- what the lines hold, as a case
 abbrev pub caseOf : Head → (members : List Member) → Case
 caseOf h members = record { plan = planFrom (h .terms); rows = h .rows; members = members }
 
+-- rule 12.3: no line is left at line k. Refusal 2: one is due; refusal 3: bytes after the end line, at the line after it
 abbrev pub closed : (k : ℕ) → (rest : List ℕ) → State → Outcome Case
 closed k rest (heading h) = refusal cutOff k
 closed k rest (table h) = refusal cutOff k

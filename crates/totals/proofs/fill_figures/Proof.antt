@@ -1,6 +1,5 @@
 -- `totals::fill_figures` meets its contract. The loop's invariant: the figures of the members so far stand in the array.
 use mathlib.Core.Path.{_≡_, refl, ap, subst, _∙_}
-use mathlib.Core.List.{List}
 use Prim.Native.Nat.{ℕ, _-_, _≤_}
 use lib.ListN.{length, length-set}
 use native.Mathlib.Omega.{arith}

@@ -1,6 +1,5 @@
 -- `totals::work` meets its contract.
 use mathlib.Core.Path.{_∙_}
-use borrow.Author.Needs.{needs}
 use Rattle.totals.proofs.TotalLaws.{sums-totals, worked-small}
 use Rattle.totals.proofs.work.Statement.{statement}
 use Rattle.totals.proofs.work.Tie as tie

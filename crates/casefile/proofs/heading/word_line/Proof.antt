@@ -1,5 +1,5 @@
 -- `casefile::heading::word_line` meets its contract.
-use mathlib.Core.Path.{refl, sym, ap, _∙_}
+use mathlib.Core.Path.{refl, ap, _∙_}
 use lib.ListN.{take, length-take}
 use native.Mathlib.Omega.{arith}
 use borrow.Author.Needs.{needs}

@@ -1,5 +1,4 @@
 -- `casefile::members::member_refusal` meets its contract.
-use borrow.Author.Needs.{needs}
 use Rattle.casefile.proofs.members.member_refusal.Statement.{statement}
 use Rattle.casefile.proofs.members.member_refusal.Tie as tie
 

@@ -1,5 +1,4 @@
 -- `fields::numbers::is_digit` meets its contract.
-use native.Mathlib.Omega.{arith}
 use borrow.Author.Tests.{lt-leb, le-leb, leb-true}
 use Rattle.fields.proofs.SplitLaws.{off}
 use Rattle.fields.proofs.numbers.is_digit.Statement.{statement}
