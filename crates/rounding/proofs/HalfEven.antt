@@ -6,11 +6,11 @@ use native.Mathlib.Nat.{mul-le-mul-right, le-of-mul-le-mul-right}
 use native.Mathlib.Omega.{arith}
 use borrow.Author.Tests.{ltb-true, ltb-false, leb-true, leb-false, lt-ltb, le-ltb}
 use lib.Dec.{leb, ltb}
-use Rattle.rounding.specs.declared.division.Division.{Division}
-use Rattle.rounding.specs.Division.{DivisionOf}
+use Rattle.division.specs.declared.Division.{Division}
+use Rattle.division.specs.Division.{DivisionOf}
 use Rattle.rounding.specs.Nearest.{nearest, nearestOf, evenOf}
 use Rattle.rounding.specs.HalfEven.{Rounded, Half-Even}
-use Rattle.rounding.proofs.Pairs.{pair, divides, same-pair}
+use Rattle.division.proofs.Pairs.{pair, divides, same-pair}
 
 -- ---- from a pair
 -- a number has one pair, so the rule makes from any that divides n by d what it makes from n

@@ -2,9 +2,5 @@
 pub mod NearestLaws
 pub mod OnePair
 mod HalfEven
-mod Pairs
-mod Halves
 mod Room
 mod SignedLaws
-mod Reciprocals
-mod Borrows

@@ -1,10 +1,10 @@
 -- Rule 6.4: every rounded quotient is made from the one pair of what it divides.
 use mathlib.Core.Path.{_≡_, _∙_}
 use Prim.Native.Nat.{ℕ, _*_, _<_}
-use Rattle.rounding.specs.Words.{value}
+use Rattle.division.specs.Words.{value}
 use Rattle.rounding.specs.Nearest.{nearest}
 use Rattle.rounding.specs.OnePair.{FromOnePair, Rounded-From-One-Pair}
-use Rattle.rounding.proofs.Pairs.{pair, divides, same-pair}
+use Rattle.division.proofs.Pairs.{pair, divides, same-pair}
 use Rattle.rounding.proofs.HalfEven.{of-pair}
 use Rattle.rounding.proofs.SignedLaws.{signed-size, signed-sign}
 

@@ -4,7 +4,7 @@ use mathlib.Core.Bool.{cond}
 use Prim.Native.Nat.{ℕ, suc, _+_, _*_, _/_, _%_}
 use lib.Dec.{ltb}
 use lib.IntN.{ℤ, pos, negsuc, negℤ}
-use Rattle.rounding.specs.declared.division.Division.{Division}
+use Rattle.division.specs.declared.Division.{Division}
 
 -- rule 6.1, of q and q + 1 the even one
 abbrev pub evenOf : ℕ → ℕ

@@ -4,10 +4,10 @@ use mathlib.Core.Path.{_≡_}
 use Prim.Native.Nat.{ℕ, _*_, _<_}
 use lib.IntN.{pos, _*ℤ_}
 use Rattle.rounding.specs.declared.Signed.{Signed}
-use Rattle.rounding.specs.declared.division.Division.{Division}
-use Rattle.rounding.specs.declared.words.Wide.{Wide}
-use Rattle.rounding.specs.Words.{value}
-use Rattle.rounding.specs.Division.{DivisionOf}
+use Rattle.division.specs.declared.Division.{Division}
+use Rattle.division.specs.declared.words.Wide.{Wide}
+use Rattle.division.specs.Words.{value}
+use Rattle.division.specs.Division.{DivisionOf}
 use Rattle.rounding.specs.Nearest.{nearest, nearestℤ, nearestOf}
 use Rattle.rounding.specs.Signed.{integer, signed}
 

@@ -1,20 +1,18 @@
 // Rounding, RULES section 6: the nearest whole, halfway the even one of two, and below 0 by the size (rules 6.1 and 6.2);
 // of a product of any width once, after its division (rule 6.3).
-// words.rt has products in two words, division.rt one long division that gives quotient and remainder, and this file
-// the rounded quotients that every figure is made with, each from one such pair (rule 6.4, stated in
-// specs/OnePair.antt). The rule itself is `nearest`, in specs/Nearest.antt; callers rest on its laws, in
-// proofs/NearestLaws.antt, and not on its text. Each `requires` is what a caller must show.
-pub mod division;
-pub mod words;
-
+// The crate `division` has products in two words, and one long division that gives quotient and remainder; here are the
+// rounded quotients that every figure is made with, each from one such pair (rule 6.4, stated in specs/OnePair.antt).
+// The rule itself is `nearest`, in specs/Nearest.antt; callers rest on its laws, in proofs/NearestLaws.antt, and not on
+// its text. Each `requires` is what a caller must show.
 use division::Division;
-use words::Wide;
+use division::words;
+use division::words::Wide;
 ghost use mathlib.Core.Path.{_≡_};
 ghost use Prim.Native.Nat.{_+_, _*_, _^_, _<_};
 ghost use lib.IntN.{pos, _*ℤ_};
+ghost use Rattle.division.specs.Words.{value};
 ghost use Rattle.rounding.specs.Nearest.{nearest, nearestℤ};
 ghost use Rattle.rounding.specs.Signed.{integer, signed};
-ghost use Rattle.rounding.specs.Words.{value};
 
 // The nearest whole to a division's exact quotient, from its pair and without another division (rule 6.4): whether the
 // quotient is odd is its last bit. The remainder is held against what it lacks to the divisor, so that nothing is doubled.

@@ -3,9 +3,9 @@ use mathlib.Core.Path.{_≡_, ap}
 use Prim.Native.Nat.{ℕ, _+_, _*_, _^_, _<_}
 use native.Mathlib.Nat.{mul-le-mul-right, lt-of-mul-lt-mul-right}
 use native.Mathlib.Omega.{arith}
-use Rattle.rounding.specs.declared.words.Wide.{Wide}
+use Rattle.division.specs.declared.words.Wide.{Wide}
 use Rattle.rounding.specs.Nearest.{nearest}
-use Rattle.rounding.specs.Words.{value}
+use Rattle.division.specs.Words.{value}
 use Rattle.rounding.proofs.NearestLaws.{nearest-below}
 
 -- a remainder below half the divisor does not raise a quotient

@@ -1,16 +1,16 @@
 // Runs the products, divisions and roundings at the edges of 32 and 64 bits and writes what they answer, a line for
 // each choice of factors and divisor. What it must write was made by another program, tests/test_rounding_edges.py.
+use division::Division;
+use division::words;
 use libc::STDOUT_FILENO;
 use rounding::Signed;
-use rounding::division::Division;
-use rounding::words;
 use words::Wide;
 ghost use mathlib.Core.Bool.{true};
 ghost use mathlib.Core.Path.{_≡_};
 ghost use Prim.Native.Nat.{_*_, _^_, _<_};
-ghost use Rattle.rounding.specs.Division.{DivisionOf};
+ghost use Rattle.division.specs.Division.{DivisionOf};
+ghost use Rattle.division.specs.Words.{value};
 ghost use Rattle.rounding.specs.Nearest.{nearest};
-ghost use Rattle.rounding.specs.Words.{value};
 
 const MAX: u64 = 0xffff_ffff_ffff_ffff;
 
@@ -107,7 +107,7 @@ fn division(w: Wide, d: u64) -> Division
     requires { ⌜ w .high < d ⌝ }
     ensures { λ s. ⌜ DivisionOf (value w) d s ⌝ }
 {
-    let s = rounding::division::divide(w, d);
+    let s = division::divide(w, d);
     numbers(s.quotient, s.remainder);
     s
 }

@@ -2,7 +2,7 @@
 use mathlib.Core.Path.{_≡_, ap, _∙_}
 use Prim.Native.Nat.{ℕ, _*_, _^_}
 use native.Mathlib.Omega.{arith}
-use Rattle.rounding.specs.Words.{value}
+use Rattle.division.specs.Words.{value}
 use Rattle.rounding.proofs.Room.{two-words}
 use Rattle.rounding.proofs.mul_mul_div_nearest.Statement.{statement}
 use Rattle.rounding.proofs.mul_mul_div_nearest.Tie as tie

@@ -1,6 +1,6 @@
 -- `rounding::wide_div_nearest` meets its contract.
 use native.Mathlib.Omega.{arith}
-use Rattle.rounding.specs.Words.{value}
+use Rattle.division.specs.Words.{value}
 use Rattle.rounding.proofs.wide_div_nearest.Statement.{statement}
 use Rattle.rounding.proofs.wide_div_nearest.Tie as tie
 

@@ -1,6 +1,6 @@
--- `rounding::words_div_nearest` meets its contract.
+-- `division::words_div_nearest` meets its contract.
 use Prim.Native.Nat.{_^_}
-use Rattle.rounding.specs.Words.{value}
+use Rattle.division.specs.Words.{value}
 use Rattle.rounding.proofs.Room.{high-less}
 use Rattle.rounding.proofs.words_div_nearest.Statement.{statement}
 use Rattle.rounding.proofs.words_div_nearest.Tie as tie
