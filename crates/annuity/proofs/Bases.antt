@@ -2,8 +2,9 @@
 use mathlib.Core.List.{List}
 use Prim.Native.Nat.{ℕ}
 use native.Mathlib.Omega.{arith}
-use Rattle.annuity.specs.Basis.{Fair, staying, basis, certain}
-use Rattle.annuity.proofs.Rates.{leaving-and-staying}
+use Rattle.rates.specs.Table.{staying}
+use Rattle.annuity.specs.Basis.{Fair, basis, certain}
+use Rattle.rates.proofs.Rates.{leaving-and-staying}
 
 -- whatever the rows hold
 pub basis-fair : (rows : List (List ℕ)) (r i : ℕ) → Fair (basis rows r i)

@@ -10,8 +10,9 @@ use lib.Seq.{getD-set-same, getD-set-other}
 use Rattle.annuity.specs.declared.Amount.{Amount}
 use Rattle.annuity.specs.declared.Amount.the-variants.{Nothing, One, Weight}
 use Rattle.rounding.specs.Nearest.{nearest}
-use Rattle.annuity.specs.Rates.{stays}
-use Rattle.annuity.specs.Basis.{Basis, Fair, staying, basis}
+use Rattle.rates.specs.Rates.{stays}
+use Rattle.rates.specs.Table.{staying}
+use Rattle.annuity.specs.Basis.{Basis, Fair, basis}
 use Rattle.annuity.specs.Factors.{S, step, pension, G}
 use Rattle.annuity.specs.Filled.{Filled, amountOf, factor}
 use Rattle.annuity.proofs.Carried.{carried-at, carried-before, carried-cong}

@@ -1,6 +1,5 @@
 -- The laws of the factors, for the proofs of the crates above.
 pub mod Carried
-pub mod Rates
 pub mod Bases
 pub mod Equations
 pub mod Distance

@@ -1,6 +1,4 @@
-pub mod Worked
 pub mod Recursion
-pub mod Rates
 pub mod Basis
 pub mod Factors
 pub mod Accuracy

@@ -1,16 +1,15 @@
-// The annuity factors, RULES section 8: staying, the year step, and A, G, T, Z and C in billionths.
-// specs/Rates.antt has staying, from a row's rates; specs/Factors.antt the factors, rounded and exact, in the rules'
-// letters; specs/Accuracy.antt how far apart the two lie. Here they are worked: the rows go by value to the step
+// The annuity factors, RULES section 8: the year step, and A, G, T, Z and C in billionths.
+// The crate `rates` has the table, and staying by its rows; specs/Factors.antt the factors, rounded and exact, in the
+// rules' letters; specs/Accuracy.antt how far apart the two lie. Here they are worked: the rows go by value to the step
 // functions, and one fill, downward from the last age, serves A, G, T and Z. An array has a place for each of the 106
 // ages; age k stands at place k - 15. Each `requires` is what an accepted plan shows.
 ghost use mathlib.Core.Path.{_≡_};
 ghost use Prim.Native.Nat.{_+_, _-_, _*_, _≤_, _<_};
 ghost use lib.ListN.{getD};
 ghost use Rattle.rounding.specs.Nearest.{nearest};
-ghost use Rattle.annuity.specs.Rates.{stays};
-ghost use Rattle.annuity.specs.Rates.{able as Rates·able};
-ghost use Rattle.annuity.specs.Basis.{Sound, Table, basis};
-ghost use Rattle.annuity.specs.Basis.{weight as Basis·weight};
+ghost use Rattle.rates.specs.Rates.{stays};
+ghost use Rattle.rates.specs.Table.{Sound, Table};
+ghost use Rattle.annuity.specs.Basis.{basis};
 ghost use Rattle.annuity.specs.Factors.{A as Factors·A, pension as Factors·pension, G, T, Z, C};
 ghost use Rattle.annuity.specs.Factors.{S as Factors·S};
 ghost use Rattle.annuity.specs.Filled.{Filled, amountOf, factor};
@@ -18,65 +17,12 @@ ghost use Rattle.annuity.specs.Filled.{Filled, amountOf, factor};
 // Rule 8.1: one, in billionths.
 pub const S: u64 = 1_000_000_000;
 
-// Rule 3.1: a row for each age from 15 to 120: three rates and the weight.
-pub type Rows = [[u32; 4]; 106];
-
-// One rate alone, in millionths: of a million, how many are left.
-fn left_by(rate: u32) -> u64
-    requires { ⌜ rate ≤ 1000000 ⌝ }
-    ensures { λ n. ⌜ n ≡ 1000000 - rate ⌝ }
-{
-    1_000_000 - word(rate)
-}
-
-// Of a million, how many are left by two causes: by the one alone a, and by the other alone b.
-fn left_by_both(a: u64, b: u64) -> u64
-    requires { ⌜ (a ≤ 1000000) × (b ≤ 1000000) ⌝ }
-    ensures { λ n. ⌜ n ≡ nearest (a * b) 1000000 ⌝ }
-{
-    rounding::div_nearest(a * b, 1_000_000)
-}
-
-// Rule 8.2, a, by the row of an age: of a million, how many neither die nor are disabled.
-fn able(row: [u32; 4]) -> u64
-    requires { ⌜ Sound row ⌝ }
-    ensures { λ a. ⌜ a ≡ Rates·able row ⌝ }
-{
-    left_by_both(left_by(row[0]), left_by(row[2]))
-}
-
-// Rule 8.2, P(k), by the row of age k: of a million, how many stay the year.
-fn staying(row: [u32; 4], r: usize, k: usize) -> u64
-    requires { ⌜ Sound row ⌝ }
-    ensures { λ p. ⌜ p ≡ stays row r k ⌝ }
-{
-    if k < r {
-        left_by_both(able(row), left_by(row[1]))
-    } else {
-        left_by(row[0])
-    }
-}
-
-// Rule 3.5, W(k): the weight of age k.
-pub fn weight(rows: [[u32; 4]; 106], k: usize) -> u64
-    requires { ⌜ (15 ≤ k) × (k ≤ 120) ⌝ }
-    ensures { λ w. ⌜ w ≡ Basis·weight rows k ⌝ }
-{
-    word(rows[k - 15][3])
-}
-
-fn word(x: u32) -> u64
-    ensures { λ r. ⌜ r ≡ x ⌝ }
-{
-    x as u64
-}
-
 // Rule 8.3, the year step: the factor f of age k + 1 as it counts at k, by the row of age k.
 fn step(row: [u32; 4], r: usize, i: u64, k: usize, f: u64) -> u64
     requires { ⌜ Sound row × (i ≤ 2000) ⌝ }
     ensures { λ g. ⌜ g ≡ nearest (f * stays row r k) (100 * (10000 + i)) ⌝ }
 {
-    rounding::mul_div_nearest(f, staying(row, r, k), 100 * (10_000 + i))
+    rounding::mul_div_nearest(f, rates::staying(row, r, k), 100 * (10_000 + i))
 }
 
 // What is paid at the start of each year: nothing, one, or the age's weight.
@@ -93,7 +39,7 @@ fn amount_of(row: [u32; 4], amount: Amount) -> u64
     match amount {
         Amount::Nothing => 0,
         Amount::One => S,
-        Amount::Weight => word(row[3]) * S,
+        Amount::Weight => rates::word(row[3]) * S,
     }
 }
 

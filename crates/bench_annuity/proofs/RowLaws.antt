@@ -4,7 +4,7 @@ use mathlib.Core.List.{List, []}
 use Prim.Native.Nat.{ℕ, zero, suc, _+_, _-_, _*_, _<_}
 use native.Mathlib.Omega.{arith}
 use lib.ListN.{length, getD}
-use Rattle.annuity.specs.Basis.{Sound, Table}
+use Rattle.rates.specs.Table.{Sound, Table}
 use Rattle.bench_annuity.specs.Rows.{rowAt, rowsFrom, rowsOf}
 
 rowsFrom-length : (numbers : List ℕ) (at n : ℕ) → length (rowsFrom numbers at n) ≡ n

@@ -11,7 +11,7 @@ use crate::heading::head_lines;
 use crate::members::Count;
 use crate::members::member_lines;
 use crate::rows::row_lines;
-use annuity::Rows;
+use rates::Rows;
 use fields::text::from;
 use plan::Members;
 use plan::Plan;

@@ -1,5 +1,5 @@
 // The lines after the rows, RULES section 4: the members and the end.
-use annuity::Rows;
+use rates::Rows;
 use fields::lines::Line as Form;
 use fields::lines::Read;
 use fields::lines::keyed_line;

@@ -1,6 +1,6 @@
 // The table, RULES section 3: a row for each age from 15 to 120.
 use crate::Part;
-use annuity::Rows;
+use rates::Rows;
 use fields::lines::Line;
 use fields::lines::Read;
 use fields::lines::keyed_line;

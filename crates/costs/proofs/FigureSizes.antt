@@ -9,7 +9,8 @@ use lib.Dec.{ltb}
 use borrow.Author.Tests.{ltb-true}
 use Rattle.rounding.specs.Nearest.{nearest}
 use Rattle.rounding.proofs.NearestLaws.{nearest-below, nearest-above, nearest-exact, nearest-mono, nearest-shrinks, nearest-le}
-use Rattle.annuity.specs.Basis.{Basis, weight}
+use Rattle.rates.specs.Table.{weight}
+use Rattle.annuity.specs.Basis.{Basis}
 use Rattle.annuity.specs.Factors.{S, step, G, T, Z}
 use Rattle.annuity.proofs.Equations.{G-below, Z-below}
 use Rattle.annuity.proofs.Sizes.{T-least, Z-least}

@@ -5,7 +5,7 @@ use native.Mathlib.Nat.{mul-le-mul, mul-le-mul-right}
 use native.Mathlib.Omega.{arith}
 use Rattle.rounding.specs.Nearest.{nearest}
 use Rattle.rounding.proofs.NearestLaws.{nearest-mono, nearest-exact}
-use Rattle.annuity.specs.Basis.{Table}
+use Rattle.rates.specs.Table.{Table}
 use Rattle.annuity.specs.Factors.{S, G, Z}
 use Rattle.annuity.proofs.Bases.{basis-fair}
 use Rattle.annuity.proofs.Sizes.{G-most, Z-least}

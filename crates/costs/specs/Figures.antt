@@ -5,10 +5,10 @@ use mathlib.Core.List.{List, [], _∷_, _++_}
 use Prim.Native.Nat.{ℕ, _*_}
 use Rattle.rounding.specs.Nearest.{nearest}
 use Rattle.fractions.specs.Ratio.{Ratio, _over_, whole, _⊕_, _⊗_, inverse}
-use Rattle.annuity.specs.Worked.{Figure, _is_, all-are}
+use Rattle.rates.specs.Worked.{Figure, _is_, all-are}
 use Rattle.annuity.specs.Recursion.{carried}
-use Rattle.annuity.specs.Rates.{able, serves, leaves, stays, crowded, rates}
-use Rattle.annuity.specs.Basis.{staying}
+use Rattle.rates.specs.Rates.{able, serves, leaves, stays, crowded, rates}
+use Rattle.rates.specs.Table.{staying}
 use Rattle.annuity.specs.Factors.{S, step, A, pension, G, T, Z}
 use Rattle.annuity.specs.Figures.{short, shortWith, factors}
 use Rattle.plan.specs.declared.Plan.{Plan}

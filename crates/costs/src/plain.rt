@@ -9,7 +9,7 @@ use plan::benefit::weights_between;
 ghost use mathlib.Core.Path.{_≡_};
 ghost use Prim.Native.Nat.{_-_, _≤_, _<_};
 ghost use lib.ListN.{getD};
-ghost use Rattle.annuity.specs.Basis.{weight};
+ghost use Rattle.rates.specs.Table.{weight};
 ghost use Rattle.annuity.specs.Factors.{T, Z};
 ghost use Rattle.plan.specs.Weights.{summed};
 ghost use Rattle.plan.specs.Acceptance.{AcceptedMember};
@@ -77,9 +77,9 @@ fn adds(p: Plan, rows: &[[u32; 4]; 106], m: Member, method: Method, k: usize, ea
     match method {
         Method::AB => accrued_benefit(p, rows, m, k as u64 + 1) - earned,
         Method::BD => 1,
-        Method::BP => annuity::weight(*rows, k),
+        Method::BP => rates::weight(*rows, k),
         Method::CD => 1,
-        Method::CP => annuity::weight(*rows, k),
+        Method::CP => rates::weight(*rows, k),
     }
 }
 

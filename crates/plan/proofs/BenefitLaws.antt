@@ -11,7 +11,7 @@ use Rattle.rounding.proofs.NearestLaws.{nearest-exact, nearest-cross}
 use Rattle.fractions.specs.Ratio.{Ratio, _over_, whole, _⊕_, _⊗_, _⊘_, inverse, _≈_}
 use Rattle.fractions.proofs.RatioLaws.{over-proper, whole-proper, whole-positive, ⊗-proper, inverse-proper}
 use Rattle.fractions.proofs.EqualLaws.{≈-refl, _∙≈_, ⊕-cong, ⊗-cong}
-use Rattle.annuity.specs.Basis.{weight}
+use Rattle.rates.specs.Table.{weight}
 use Rattle.plan.specs.declared.Plan.{Plan}
 use Rattle.plan.specs.declared.Member.{Member}
 use Rattle.plan.specs.declared.Formula.{Formula}

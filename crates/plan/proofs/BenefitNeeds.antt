@@ -7,7 +7,7 @@ use lib.Dec.{leb}
 use Prim.Native.Nat.{ℕ, _-_, _*_, _≤_, _<_, min}
 use native.Mathlib.Nat.{le-refl, mul-le-mul, min-le-left, min-le-right, min-eq-left, min-eq-right, le-of-lt}
 use native.Mathlib.Omega.{arith}
-use Rattle.annuity.specs.Basis.{weight, Table}
+use Rattle.rates.specs.Table.{weight, Table}
 use Rattle.plan.specs.declared.Plan.{Plan}
 use Rattle.plan.specs.declared.Member.{Member}
 use Rattle.plan.specs.declared.Formula.{Formula}

@@ -8,8 +8,8 @@ use native.Mathlib.Nat.{eq-or-lt-of-le}
 use native.Mathlib.Omega.{arith}
 use borrow.Author.Tests.{leb-true, ltb-true, eq-eqb, ne-eqb}
 use lib.Dec.{leb, ltb, eqb}
-use Rattle.annuity.specs.Rates.{death, withdrawal, disability}
-use Rattle.annuity.specs.Basis.{row, weight, Sound, Table}
+use Rattle.rates.specs.Rates.{death, withdrawal, disability}
+use Rattle.rates.specs.Table.{row, weight, Sound, Table}
 use Rattle.plan.specs.declared.Plan.{Plan}
 use Rattle.plan.specs.declared.Member.{Member}
 use Rattle.plan.specs.Rules.{unless, firstOf, between}

@@ -9,7 +9,7 @@ use native.Mathlib.Omega.{arith}
 use borrow.Author.Tests.{eq-eqb, ne-eqb, lt-ltb}
 use lib.ListN.{List·getD-eq-default}
 use lib.Dec.{eqb}
-use Rattle.annuity.specs.Basis.{weight}
+use Rattle.rates.specs.Table.{weight}
 use Rattle.plan.specs.Rules.{firstOf}
 use Rattle.plan.specs.Acceptance.{TermRule, termRules, termRule, rowRules, rowOf, weightBefore, rowsRefusal}
 

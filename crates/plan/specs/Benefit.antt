@@ -5,7 +5,7 @@ use Prim.Native.Nat.{ℕ, zero, suc, _-_, _*_, min}
 use lib.Dec.{leb, eqb}
 use Rattle.rounding.specs.Nearest.{nearest}
 use Rattle.fractions.specs.Ratio.{Ratio, _over_, whole, _⊕_, _⊗_, _⊘_}
-use Rattle.annuity.specs.Basis.{weight}
+use Rattle.rates.specs.Table.{weight}
 use Rattle.plan.specs.declared.Formula.{Formula}
 use Rattle.plan.specs.declared.Formula.the-variants.{Flat, Career, Final}
 use Rattle.plan.specs.declared.Plan.{Plan}

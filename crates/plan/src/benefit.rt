@@ -6,7 +6,7 @@ use crate::rules::wide;
 ghost use mathlib.Core.Path.{_≡_};
 ghost use Prim.Native.Nat.{_-_, _*_, _≤_, _<_, min};
 ghost use Rattle.rounding.specs.Nearest.{nearest};
-ghost use Rattle.annuity.specs.Basis.{Table, weight};
+ghost use Rattle.rates.specs.Table.{Table, weight};
 ghost use Rattle.plan.specs.Weights.{summed, firstPaid};
 ghost use Rattle.plan.specs.Benefit.{formulaOf, B};
 ghost use Rattle.plan.specs.Acceptance.{planRefusal, Placed};

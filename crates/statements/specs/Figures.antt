@@ -5,10 +5,10 @@ use mathlib.Core.List.{List, [], _∷_, _++_}
 use lib.IntN.{pos, natAbs, _+ℤ_}
 use Rattle.rounding.specs.Nearest.{nearest, nearestℤ}
 use Rattle.fractions.specs.Ratio.{_over_, whole, _⊕_, _⊗_, inverse}
-use Rattle.annuity.specs.Worked.{Figure, _is_, all-are}
+use Rattle.rates.specs.Worked.{Figure, _is_, all-are}
 use Rattle.annuity.specs.Recursion.{carried}
-use Rattle.annuity.specs.Rates.{able, serves, leaves, stays, rates}
-use Rattle.annuity.specs.Basis.{staying}
+use Rattle.rates.specs.Rates.{able, serves, leaves, stays, rates}
+use Rattle.rates.specs.Table.{staying}
 use Rattle.annuity.specs.Factors.{step, A, pension, G, T, Z, C}
 use Rattle.annuity.specs.Figures.{short, factors}
 use Rattle.plan.specs.declared.Plan.{Plan}

@@ -1,7 +1,7 @@
 -- What the program tests of a case before it asks for the factors.
 use mathlib.Core.List.{List}
 use Prim.Native.Nat.{ℕ, _≤_}
-use Rattle.annuity.specs.Basis.{Table}
+use Rattle.rates.specs.Table.{Table}
 
 -- all that the annuity functions require
 pub record Case (rows : List (List ℕ)) (i r e m : ℕ) : Type 0 where

@@ -1,7 +1,7 @@
 // The figures of all members and the plan's own: RULES section 11. `work` fills the array of figures and sums them, one
 // after the other; the text is the crate valuation's. specs/Totals.antt has the totals, specs/Worked.antt what the array
 // holds.
-use annuity::Rows;
+use rates::Rows;
 use costs::Figures;
 use plan::Member;
 use plan::Members;

@@ -5,7 +5,7 @@
 mod lines;
 
 use crate::lines::write_lines;
-use annuity::Rows;
+use rates::Rows;
 pub use casefile::Accepting;
 pub use casefile::Reading;
 pub use casefile::accept_case;

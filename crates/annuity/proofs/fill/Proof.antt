@@ -4,7 +4,8 @@ use mathlib.Core.List.{[]}
 use Prim.Native.Nat.{ℕ, _+_, _-_, _≤_}
 use native.Mathlib.Omega.{arith}
 use lib.ListN.{getD}
-use Rattle.annuity.specs.Basis.{basis, Sound}
+use Rattle.rates.specs.Table.{Sound}
+use Rattle.annuity.specs.Basis.{basis}
 use Rattle.annuity.specs.Factors.{step}
 use Rattle.annuity.specs.Filled.{Filled, amountOf, factor}
 use Rattle.annuity.proofs.Bases.{basis-fair}

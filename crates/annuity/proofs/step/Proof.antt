@@ -2,7 +2,7 @@
 use Prim.Native.Nat.{_+_, _*_, _≤_}
 use native.Mathlib.Omega.{arith}
 use Rattle.annuity.proofs.YearStep.{step-shrinks}
-use Rattle.annuity.proofs.Rates.{leaving-and-staying}
+use Rattle.rates.proofs.Rates.{leaving-and-staying}
 use Rattle.annuity.proofs.step.Statement.{statement}
 use Rattle.annuity.proofs.step.Tie as tie
 

@@ -6,7 +6,7 @@ use mathlib.Core.List.{[]}
 use Prim.Native.Nat.{ℕ, _-_, _≤_, _<_}
 use native.Mathlib.Omega.{arith}
 use lib.ListN.{getD}
-use Rattle.annuity.specs.Basis.{Sound}
+use Rattle.rates.specs.Table.{Sound}
 use Rattle.bench_annuity.proofs.RowLaws.{sound-table}
 use Rattle.bench_annuity.proofs.is_table.Statement.{statement}
 use Rattle.bench_annuity.proofs.is_table.Tie as tie

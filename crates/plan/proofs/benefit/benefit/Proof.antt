@@ -4,7 +4,7 @@ use Prim.Native.Nat.{ℕ, _-_, _*_}
 use native.Mathlib.Nat.{mul-le-mul}
 use native.Mathlib.Omega.{arith}
 use Rattle.rounding.specs.Nearest.{nearest}
-use Rattle.annuity.specs.Basis.{weight}
+use Rattle.rates.specs.Table.{weight}
 use Rattle.plan.specs.Weights.{summed}
 use Rattle.plan.proofs.Facts.{plan-facts}
 use Rattle.plan.proofs.BenefitLaws.{not-flat, flat-career, flat-final, final-code, none-at-entry, flat-benefit, career-benefit, final-benefit}

@@ -3,7 +3,7 @@ use mathlib.Core.Path.{_≡_, sym, _∙_}
 use Prim.Native.Nat.{_+_, _-_, _≤_}
 use native.Mathlib.Nat.{le-refl}
 use native.Mathlib.Omega.{arith}
-use Rattle.annuity.specs.Basis.{weight}
+use Rattle.rates.specs.Table.{weight}
 use Rattle.plan.specs.Weights.{summed}
 use Rattle.plan.proofs.WeightLaws.{summed-more, summed-most}
 use Rattle.plan.proofs.benefit.weights_between.Statement.{statement}

@@ -1,9 +1,9 @@
--- `annuity::able` meets its contract.
+-- `rates::able` meets its contract.
 use Prim.Native.Nat.{_-_}
 use native.Mathlib.Omega.{arith}
-use Rattle.annuity.specs.Rates.{able}
-use Rattle.annuity.proofs.able.Statement.{statement}
-use Rattle.annuity.proofs.able.Tie as tie
+use Rattle.rates.specs.Rates.{able}
+use Rattle.rates.proofs.able.Statement.{statement}
+use Rattle.rates.proofs.able.Tie as tie
 
 pub able-spec : {M : Type 1} → statement M
 unfolding able

@@ -6,7 +6,7 @@ use native.Mathlib.Omega.{arith}
 use borrow.Author.Tests.{lt-ltb}
 use lib.Dec.{ltb}
 use Rattle.rounding.proofs.NearestLaws.{nearest-shrinks}
-use Rattle.annuity.specs.Rates.{death, withdrawal, disability, able, serves, leaves, stays, Leaving-And-Staying}
+use Rattle.rates.specs.Rates.{death, withdrawal, disability, able, serves, leaves, stays, Leaving-And-Staying}
 
 able-most : (row : List ℕ) → able row ≤ 1000000
 unfolding able

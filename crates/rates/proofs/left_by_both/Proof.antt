@@ -1,8 +1,8 @@
--- `annuity::left_by_both` meets its contract.
+-- `rates::left_by_both` meets its contract.
 use native.Mathlib.Nat.{mul-le-mul}
 use native.Mathlib.Omega.{arith}
-use Rattle.annuity.proofs.left_by_both.Statement.{statement}
-use Rattle.annuity.proofs.left_by_both.Tie as tie
+use Rattle.rates.proofs.left_by_both.Statement.{statement}
+use Rattle.rates.proofs.left_by_both.Tie as tie
 
 pub left-by-both-spec : {M : Type 1} → statement M
 left-by-both-spec =

@@ -1,13 +1,13 @@
--- `annuity::staying` meets its contract.
+-- `rates::staying` meets its contract.
 use borrow.Author.Tests.{lt-ltb, le-ltb}
 use mathlib.Core.Path.{_≡_, _∙_}
 use Prim.Native.Nat.{_-_, _*_}
 use native.Mathlib.Omega.{arith}
 use Rattle.rounding.specs.Nearest.{nearest}
-use Rattle.annuity.specs.Rates.{withdrawal, serves, stays}
-use Rattle.annuity.proofs.Rates.{leaving-and-staying}
-use Rattle.annuity.proofs.staying.Statement.{statement}
-use Rattle.annuity.proofs.staying.Tie as tie
+use Rattle.rates.specs.Rates.{withdrawal, serves, stays}
+use Rattle.rates.proofs.Rates.{leaving-and-staying}
+use Rattle.rates.proofs.staying.Statement.{statement}
+use Rattle.rates.proofs.staying.Tie as tie
 
 left-by-both-requires : tie.Need-left-by-both-requires
 left-by-both-requires c κs =
