@@ -5,10 +5,10 @@
 
 A contract says what a function gives, and not how often it divides, so the machine's instructions are read. The count of
 a function is the most division instructions on any way through it, with what it calls. It must be 1 for each rounding,
-as bench_rounding exports it, and at most 1 for each function of `rounding` that stands by itself in the library; where
-the compiler has put a rounding into another function, there is none to count. A second division instruction fails the
-test, and so do one in a loop, and a jump or a call that can't be followed. The counting is tried first on code of which
-the count is known, and on an export that rounds twice.
+as bench_rounding exports it, and at most 1 for each function of `rounding` and `division` that stands by itself in the
+library; where the compiler has put a rounding into another function, there is none to count. A second division
+instruction fails the test, and so do one in a loop, and a jump or a call that can't be followed. The counting is tried
+first on code of which the count is known, and on an export that rounds twice.
 """
 import re
 import subprocess
@@ -209,7 +209,7 @@ def check():
     for name in roundings():
         hold(exported, f'bench_rounding_{name}', [1])
     shipped = functions_of(ARCHIVES / 'libkuyeshan.a')
-    alone = [name for name in shipped if name.startswith('rounding::')]
+    alone = [name for name in shipped if name.startswith(('rounding::', 'division::'))]
     for name in alone:
         hold(shipped, name, [0, 1])
     if not roundings() or not alone:
