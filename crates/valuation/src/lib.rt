@@ -12,7 +12,7 @@ pub use casefile::accept_case;
 pub use casefile::read_case;
 pub use costs::Figures;
 pub use costs::Valuation;
-pub use costs::value_member;
+pub use plain_engine::value_member;
 pub use plan::Member;
 use plan::Members;
 pub use plan::Plan;

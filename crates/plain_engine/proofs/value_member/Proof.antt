@@ -1,11 +1,11 @@
--- `costs::value_member` meets its contract.
+-- `plain_engine::value_member` meets its contract.
 use mathlib.Core.Path.{_≡_, sym, _∙_}
 use Rattle.plan.specs.Acceptance.{loneRefusal, AcceptedMember}
 use Rattle.plan.proofs.Facts.{lone-facts}
 use Rattle.costs.proofs.Answers.{refused, valued, limited}
 use borrow.Author.Needs.{needs}
-use Rattle.costs.proofs.value_member.Statement.{statement}
-use Rattle.costs.proofs.value_member.Tie as tie
+use Rattle.plain_engine.proofs.value_member.Statement.{statement}
+use Rattle.plain_engine.proofs.value_member.Tie as tie
 
 lone-refusal-requires : tie.Need-lone-refusal-requires
 lone-refusal-requires c κs = search needs

@@ -1,9 +1,9 @@
--- `costs::plain::pay_from_entry` meets its contract.
+-- `plain_engine::parts::pay_from_entry` meets its contract.
 use mathlib.Core.Path.{_∙_}
 use native.Mathlib.Nat.{le-refl, le-trans}
 use Rattle.costs.proofs.Needs.{in-table, workable}
-use Rattle.costs.proofs.plain.pay_from_entry.Statement.{statement}
-use Rattle.costs.proofs.plain.pay_from_entry.Tie as tie
+use Rattle.plain_engine.proofs.parts.pay_from_entry.Statement.{statement}
+use Rattle.plain_engine.proofs.parts.pay_from_entry.Tie as tie
 
 pay-annuity-requires : tie.Need-pay-annuity-requires
 pay-annuity-requires c κs =

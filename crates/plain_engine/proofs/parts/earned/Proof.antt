@@ -1,7 +1,7 @@
--- `costs::plain::earned` meets its contract.
+-- `plain_engine::parts::earned` meets its contract.
 use borrow.Author.Needs.{needs}
-use Rattle.costs.proofs.plain.earned.Statement.{statement}
-use Rattle.costs.proofs.plain.earned.Tie as tie
+use Rattle.plain_engine.proofs.parts.earned.Statement.{statement}
+use Rattle.plain_engine.proofs.parts.earned.Tie as tie
 
 pub earned-spec : {M : Type 1} → statement M
 earned-spec =

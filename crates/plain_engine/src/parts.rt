@@ -1,6 +1,6 @@
-// The plain engine: the parts of a member's figures by factors of its own, each worked once, and only those that the
-// method asks for.
-use crate::parts::Parts;
+// The parts of a member's figures by factors of its own, each worked once, and only those that the method asks for.
+use annuity::Rows;
+use costs::parts::Parts;
 use plan::Member;
 use plan::Method;
 use plan::Plan;
@@ -13,17 +13,11 @@ ghost use Rattle.annuity.specs.Basis.{weight};
 ghost use Rattle.annuity.specs.Factors.{T, Z};
 ghost use Rattle.plan.specs.Weights.{summed};
 ghost use Rattle.plan.specs.Acceptance.{AcceptedMember};
 ghost use Rattle.costs.specs.Valuation.{caseOf, planBasis};
 ghost use Rattle.costs.specs.Parts.{earned as Parts·earned, added as Parts·added, adds as Parts·adds, divisor as Parts·divisor, partsAt};
 
 // The parts of an accepted member at an age k of its own, by any method.
-pub(crate) fn parts_at(
-    p: Plan,
-    rows: &[[u32; 4]; 106],
-    m: Member,
-    method: Method,
-    k: usize,
-) -> Parts
+pub(crate) fn parts_at(p: Plan, rows: &Rows, m: Member, method: Method, k: usize) -> Parts
     requires { ⌜ AcceptedMember p (now rows) m × (m .entry ≤ k) × (k ≤ p .retire) ⌝ }
     ensures { λ q. ⌜ q ≡ partsAt (caseOf p (now (rows .entry)) m) k method ⌝ }
 {
@@ -45,7 +39,7 @@ pub(crate) fn parts_at(
 }
 
 // What is earned by age e, in the method's own measure.
-fn earned(p: Plan, rows: &[[u32; 4]; 106], m: Member, method: Method, e: usize) -> u64
+fn earned(p: Plan, rows: &Rows, m: Member, method: Method, e: usize) -> u64
     requires { ⌜ AcceptedMember p (now rows) m × (m .entry ≤ e) × (e ≤ p .retire) ⌝ }
     ensures { λ r. ⌜ r ≡ Parts·earned (caseOf p (now (rows .entry)) m) e method ⌝ }
 {
@@ -59,7 +53,7 @@ fn earned(p: Plan, rows: &[[u32; 4]; 106], m: Member, method: Method, e: usize) 
 }
 
 // What the year from age k on adds to what is earned by k: nothing from r on.
-fn added(p: Plan, rows: &[[u32; 4]; 106], m: Member, method: Method, k: usize, earned: u64) -> u64
+fn added(p: Plan, rows: &Rows, m: Member, method: Method, k: usize, earned: u64) -> u64
     requires { ⌜ AcceptedMember p (now rows) m × (m .entry ≤ k) × (earned ≡ Parts·earned (caseOf p (now rows) m) k method) ⌝ }
     ensures { λ r. ⌜ r ≡ Parts·added (caseOf p (now (rows .entry)) m) k method ⌝ }
 {
@@ -70,7 +64,7 @@ fn added(p: Plan, rows: &[[u32; 4]; 106], m: Member, method: Method, k: usize, e
 }
 
 // The same below r. By AB that is B(k+1) less what is earned, so that B(k) is worked once.
-fn adds(p: Plan, rows: &[[u32; 4]; 106], m: Member, method: Method, k: usize, earned: u64) -> u64
+fn adds(p: Plan, rows: &Rows, m: Member, method: Method, k: usize, earned: u64) -> u64
     requires { ⌜ AcceptedMember p (now rows) m × (m .entry ≤ k) × (k < p .retire) × (earned ≡ Parts·earned (caseOf p (now rows) m) k method) ⌝ }
     ensures { λ r. ⌜ r ≡ Parts·adds (caseOf p (now (rows .entry)) m) k method ⌝ }
 {
@@ -84,7 +78,7 @@ fn adds(p: Plan, rows: &[[u32; 4]; 106], m: Member, method: Method, k: usize, ea
 }
 
 // What N and L are divided by.
-fn divisor(p: Plan, rows: &[[u32; 4]; 106], m: Member, method: Method) -> u64
+fn divisor(p: Plan, rows: &Rows, m: Member, method: Method) -> u64
     requires { ⌜ AcceptedMember p (now rows) m ⌝ }
     ensures { λ r. ⌜ r ≡ Parts·divisor (caseOf p (now (rows .entry)) m) method ⌝ }
 {
@@ -98,7 +92,7 @@ fn divisor(p: Plan, rows: &[[u32; 4]; 106], m: Member, method: Method) -> u64
 }
 
 // The weights of the ages from y to e - 1, for an age e of the member.
-fn weights_from_entry(p: Plan, rows: &[[u32; 4]; 106], m: Member, e: usize) -> u64
+fn weights_from_entry(p: Plan, rows: &Rows, m: Member, e: usize) -> u64
     requires { ⌜ AcceptedMember p (now rows) m × (m .entry ≤ e) × (e ≤ p .retire) ⌝ }
     ensures { λ r. ⌜ r ≡ summed (weight (now (rows .entry))) (m .entry) (e - m .entry) ⌝ }
 {
@@ -106,7 +100,7 @@ fn weights_from_entry(p: Plan, rows: &[[u32; 4]; 106], m: Member, e: usize) -> u
 }
 
 // T(y,e), for an age e of the member.
-fn working_from_entry(p: Plan, rows: &[[u32; 4]; 106], m: Member, e: usize) -> u64
+fn working_from_entry(p: Plan, rows: &Rows, m: Member, e: usize) -> u64
     requires { ⌜ AcceptedMember p (now rows) m × (m .entry ≤ e) × (e ≤ p .retire) ⌝ }
     ensures { λ r. ⌜ r ≡ T (planBasis p (now (rows .entry))) (m .entry) e ⌝ }
 {
@@ -115,7 +109,7 @@ fn working_from_entry(p: Plan, rows: &[[u32; 4]; 106], m: Member, e: usize) -> u
 }
 
 // Z(y,e), for an age e of the member.
-fn pay_from_entry(p: Plan, rows: &[[u32; 4]; 106], m: Member, e: usize) -> u64
+fn pay_from_entry(p: Plan, rows: &Rows, m: Member, e: usize) -> u64
     requires { ⌜ AcceptedMember p (now rows) m × (m .entry ≤ e) × (e ≤ p .retire) ⌝ }
     ensures { λ r. ⌜ r ≡ Z (planBasis p (now (rows .entry))) (m .entry) e ⌝ }
 {

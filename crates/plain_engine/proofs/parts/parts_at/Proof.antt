@@ -1,11 +1,11 @@
--- `costs::plain::parts_at` meets its contract.
+-- `plain_engine::parts::parts_at` meets its contract.
 use mathlib.Core.Path.{_∙_}
 use native.Mathlib.Nat.{le-refl, le-of-lt}
 use Rattle.costs.specs.Parts.{partsAt}
 use Rattle.costs.proofs.Needs.{in-table, workable}
 use borrow.Author.Needs.{needs}
-use Rattle.costs.proofs.plain.parts_at.Statement.{statement}
-use Rattle.costs.proofs.plain.parts_at.Tie as tie
+use Rattle.plain_engine.proofs.parts.parts_at.Statement.{statement}
+use Rattle.plain_engine.proofs.parts.parts_at.Tie as tie
 
 deferred-annuity-requires : tie.Need-deferred-annuity-requires
 deferred-annuity-requires c κs =

@@ -1,14 +1,14 @@
--- `costs::plain::adds` meets its contract.
+-- `plain_engine::parts::adds` meets its contract.
 use mathlib.Core.Path.{_≡_}
 use Prim.Native.Nat.{_-_}
 use native.Mathlib.Omega.{arith}
 use Rattle.plan.specs.Benefit.{B}
 use Rattle.costs.specs.Valuation.{caseOf}
 use Rattle.costs.proofs.Limits.{B-rises}
 use Rattle.costs.proofs.Needs.{facts, sound}
 use borrow.Author.Needs.{needs}
-use Rattle.costs.proofs.plain.adds.Statement.{statement}
-use Rattle.costs.proofs.plain.adds.Tie as tie
+use Rattle.plain_engine.proofs.parts.adds.Statement.{statement}
+use Rattle.plain_engine.proofs.parts.adds.Tie as tie
 
 -- by AB what is earned is B(k)
 earned : (c : tie.After-accrued-benefit) → let a = c .before .before .before .args in a .earned ≡ B (a .p) (a .rows .now) (a .m) (a .k)

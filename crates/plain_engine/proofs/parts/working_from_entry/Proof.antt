@@ -1,9 +1,9 @@
--- `costs::plain::working_from_entry` meets its contract.
+-- `plain_engine::parts::working_from_entry` meets its contract.
 use mathlib.Core.Path.{_∙_}
 use native.Mathlib.Nat.{le-refl, le-trans}
 use Rattle.costs.proofs.Needs.{in-table, workable}
-use Rattle.costs.proofs.plain.working_from_entry.Statement.{statement}
-use Rattle.costs.proofs.plain.working_from_entry.Tie as tie
+use Rattle.plain_engine.proofs.parts.working_from_entry.Statement.{statement}
+use Rattle.plain_engine.proofs.parts.working_from_entry.Tie as tie
 
 working-annuity-requires : tie.Need-working-annuity-requires
 working-annuity-requires c κs =

@@ -1,8 +1,8 @@
--- `costs::plain::weights_from_entry` meets its contract.
+-- `plain_engine::parts::weights_from_entry` meets its contract.
 use Rattle.costs.proofs.Needs.{facts, in-table}
 use borrow.Author.Needs.{needs}
-use Rattle.costs.proofs.plain.weights_from_entry.Statement.{statement}
-use Rattle.costs.proofs.plain.weights_from_entry.Tie as tie
+use Rattle.plain_engine.proofs.parts.weights_from_entry.Statement.{statement}
+use Rattle.plain_engine.proofs.parts.weights_from_entry.Tie as tie
 
 weights-between-requires : tie.Need-weights-between-requires
 weights-between-requires c κs =

@@ -1,9 +1,9 @@
--- `costs::plain::added` meets its contract.
+-- `plain_engine::parts::added` meets its contract.
 use native.Mathlib.Omega.{arith}
 use borrow.Author.Tests.{lt-ltb, le-ltb}
 use borrow.Author.Needs.{needs}
-use Rattle.costs.proofs.plain.added.Statement.{statement}
-use Rattle.costs.proofs.plain.added.Tie as tie
+use Rattle.plain_engine.proofs.parts.added.Statement.{statement}
+use Rattle.plain_engine.proofs.parts.added.Tie as tie
 
 returns : tie.Need-returns
 returns c = simp (le-ltb (c .before .args .k) (c .before .args .p .retire) (omega arith))

@@ -1,7 +1,7 @@
--- `costs::plain::divisor` meets its contract.
+-- `plain_engine::parts::divisor` meets its contract.
 use borrow.Author.Needs.{needs}
-use Rattle.costs.proofs.plain.divisor.Statement.{statement}
-use Rattle.costs.proofs.plain.divisor.Tie as tie
+use Rattle.plain_engine.proofs.parts.divisor.Statement.{statement}
+use Rattle.plain_engine.proofs.parts.divisor.Tie as tie
 
 pub divisor-spec : {M : Type 1} → statement M
 divisor-spec =

@@ -1,12 +1,12 @@
--- `costs::figures_of` meets its contract.
+-- `plain_engine::figures_of` meets its contract.
 use mathlib.Core.Path.{ap, _∙_}
 use Rattle.plan.specs.declared.Method.{Method}
 use Rattle.costs.specs.Valuation.{figuresAt, figures}
 use Rattle.costs.specs.Parts.{Gives}
 use Rattle.costs.proofs.PartLaws.{from-parts}
 use borrow.Author.Needs.{needs}
-use Rattle.costs.proofs.figures_of.Statement.{statement}
-use Rattle.costs.proofs.figures_of.Tie as tie
+use Rattle.plain_engine.proofs.figures_of.Statement.{statement}
+use Rattle.plain_engine.proofs.figures_of.Tie as tie
 
 law : (c : tie.After-method-of) → let a = c .before .args in Gives (a .p) (a .t2) (a .m) (c .method-of .result) (a .m .age)
 law c =
