@@ -14,7 +14,7 @@ ghost use Rattle.plan.specs.Acceptance.{planFrom};
 ghost use Rattle.walk.specs.Walk.{walkOf};
 ghost use Rattle.casefile.specs.Answers.{acceptingOf};
 ghost use Rattle.costs.specs.Valuation.{valuation};
-ghost use Rattle.valuation.specs.Lines.{refusalLine};
+ghost use Rattle.report.specs.Lines.{refusalLine};
 ghost use Rattle.valuation.specs.Answers.{fitting, valuedOf, buffer};
 ghost use Rattle.kuyeshan.specs.Answers.{numberOf, lineOf, writtenOf};
 ghost use Rattle.walk.specs.Lines.{memberFrom};

@@ -1,5 +1,5 @@
 // The figures of all members and the plan's own: RULES section 11. `work` fills the array of figures and sums them, one
-// after the other; the text is the crate valuation's. specs/Totals.antt has the totals, specs/Worked.antt what the array
+// after the other; the text is the crate report's. specs/Totals.antt has the totals, specs/Worked.antt what the array
 // holds.
 use annuity::Rows;
 use costs::Figures;

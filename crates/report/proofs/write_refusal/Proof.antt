@@ -1,8 +1,8 @@
--- `valuation::write_refusal` meets its contract.
+-- `report::write_refusal` meets its contract.
 use borrow.Author.Needs.{needs}
-use Rattle.valuation.specs.Lines.{refusalLine}
-use Rattle.valuation.proofs.write_refusal.Statement.{statement}
-use Rattle.valuation.proofs.write_refusal.Tie as tie
+use Rattle.report.specs.Lines.{refusalLine}
+use Rattle.report.proofs.write_refusal.Statement.{statement}
+use Rattle.report.proofs.write_refusal.Tie as tie
 
 returns : tie.Need-returns
 unfolding refusalLine

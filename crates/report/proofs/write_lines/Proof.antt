@@ -1,8 +1,8 @@
--- `valuation::lines::write_lines` meets its contract.
+-- `report::write_lines` meets its contract.
 use borrow.Author.Needs.{needs}
 use Rattle.printing.proofs.SetsLaws.{_then_}
-use Rattle.valuation.proofs.lines.write_lines.Statement.{statement}
-use Rattle.valuation.proofs.lines.write_lines.Tie as tie
+use Rattle.report.proofs.write_lines.Statement.{statement}
+use Rattle.report.proofs.write_lines.Tie as tie
 
 returns : tie.Need-returns
 returns c = c .before .before .before .before .before .before .write-member-lines .ensures .0 then c .before .before .write-plan-lines .ensures

@@ -1,10 +1,10 @@
--- `valuation::lines::write_plan_lines` meets its contract.
+-- `report::write_plan_lines` meets its contract.
 use borrow.Author.Needs.{needs}
 use Rattle.printing.proofs.SetsLaws.{_then_}
 use Rattle.printing.proofs.LineLaws.{start-and-fields}
-use Rattle.valuation.specs.Lines.{totalLine, planLines}
-use Rattle.valuation.proofs.lines.write_plan_lines.Statement.{statement}
-use Rattle.valuation.proofs.lines.write_plan_lines.Tie as tie
+use Rattle.report.specs.Lines.{totalLine, planLines}
+use Rattle.report.proofs.write_plan_lines.Statement.{statement}
+use Rattle.report.proofs.write_plan_lines.Tie as tie
 
 returns : tie.Need-returns
 unfolding planLines totalLine

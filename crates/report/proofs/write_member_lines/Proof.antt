@@ -1,14 +1,14 @@
--- `valuation::lines::write_member_lines` meets its contract.
+-- `report::write_member_lines` meets its contract.
 use borrow.Author.Needs.{needs}
 use native.Mathlib.Omega.{arith}
 use mathlib.Core.Path.{_≡_, refl}
 use Prim.Native.Nat.{_-_, _*_, _≤_}
 use lib.ListN.{length}
 use Rattle.printing.specs.Puts.{Puts}
-use Rattle.valuation.specs.Worked.{linesIn}
-use Rattle.valuation.proofs.PrintedLaws.{lines-none, line-on}
-use Rattle.valuation.proofs.lines.write_member_lines.Statement.{statement}
-use Rattle.valuation.proofs.lines.write_member_lines.Tie as tie
+use Rattle.report.specs.Worked.{linesIn}
+use Rattle.report.proofs.PrintedLaws.{lines-none, line-on}
+use Rattle.report.proofs.write_member_lines.Statement.{statement}
+use Rattle.report.proofs.write_member_lines.Tie as tie
 
 abbrev Inv-loop : tie.InvT-loop
 Inv-loop out₀ members worked count at₀ j₀ out at j = (j ≤ count) × (at ≤ j * 133) × (length out ≡ length out₀) × Puts out₀ 0 (linesIn members worked j) out at

@@ -3,7 +3,7 @@ use mathlib.Core.List.{List, [], _++_}
 use Prim.Native.Nat.{ℕ, zero, suc}
 use Rattle.casefile.specs.Stored.{memberAt}
 use Rattle.totals.specs.Worked.{figuresIn}
-use Rattle.valuation.specs.Lines.{figuresLine}
+use Rattle.report.specs.Lines.{figuresLine}
 
 -- the lines of the first n members
 unfoldable pub linesIn : (members worked : List (List ℕ)) → ℕ → List ℕ

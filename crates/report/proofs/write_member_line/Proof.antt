@@ -1,10 +1,10 @@
--- `valuation::lines::write_member_line` meets its contract.
+-- `report::write_member_line` meets its contract.
 use borrow.Author.Needs.{needs}
 use Rattle.printing.proofs.SetsLaws.{_then_}
 use Rattle.printing.proofs.LineLaws.{field-before}
-use Rattle.valuation.specs.Lines.{figuresLine}
-use Rattle.valuation.proofs.lines.write_member_line.Statement.{statement}
-use Rattle.valuation.proofs.lines.write_member_line.Tie as tie
+use Rattle.report.specs.Lines.{figuresLine}
+use Rattle.report.proofs.write_member_line.Statement.{statement}
+use Rattle.report.proofs.write_member_line.Tie as tie
 
 returns : tie.Need-returns
 unfolding figuresLine

@@ -1,8 +1,10 @@
-// The lines of the members and of the plan, rule 13.2.
+// The lines of a report, RULES section 13: those of the members and of the plan, or the one line of a refusal. A writer
+// puts them at their place and answers the place after them; with no bytes to write to it measures.
 use costs::Figures;
 use plan::Members;
 use printing::lines::write_end;
 use printing::lines::write_field;
+use printing::lines::write_pair_line;
 use printing::lines::write_signed_line;
 use printing::lines::write_start;
 use rounding::Signed;
@@ -14,8 +16,8 @@ ghost use mathlib.Core.List.{_++_};
 ghost use Prim.Native.Nat.{_+_, _^_, _≤_, _<_};
 ghost use Rattle.rounding.specs.Signed.{integer};
 ghost use Rattle.printing.specs.Puts.{Puts};
-ghost use Rattle.valuation.specs.Lines.{figuresLine, planLines};
-ghost use Rattle.valuation.specs.Worked.{linesIn};
+ghost use Rattle.report.specs.Lines.{figuresLine, planLines, refusalLine};
+ghost use Rattle.report.specs.Worked.{linesIn};
 
 // Writes a member's line.
 fn write_member_line(out: &mut [u8], at: usize, id: u64, f: Figures) -> usize
@@ -64,7 +66,7 @@ fn write_plan_lines(
 }
 
 // Writes all lines of an accepted case.
-pub(crate) fn write_lines(
+pub fn write_lines(
     out: &mut [u8],
     members: &Members,
     worked: &Worked,
@@ -78,4 +80,11 @@ pub(crate) fn write_lines(
 {
     let at = write_member_lines(out, members, worked, count as usize);
     write_plan_lines(out, at, count, t, unfunded, supplemental)
+}
+
+// Rule 13.3: writes the line of a refusal.
+pub fn write_refusal(out: &mut [u8], number: u64, line: u64) -> usize
+    ensures { λ r. ⌜ Puts (now (out .entry)) 0 (refusalLine number line) (now (out .exit)) r ⌝ }
+{
+    write_pair_line(out, 0, b"refused=", number, line)
 }
