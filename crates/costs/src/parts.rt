@@ -1,5 +1,5 @@
 // The parts of a member's figures at one age, and the figures that they give by any method: RULES section 9. An engine
-// works the parts (plain.rt); here nothing is known of a plan, a table or an age.
+// works the parts; here nothing is known of a plan, a table or an age.
 use crate::Figures;
 use plan::Method;
 ghost use mathlib.Core.Path.{_≡_};

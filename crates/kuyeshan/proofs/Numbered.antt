@@ -14,7 +14,7 @@ use Rattle.casefile.specs.Answers.{acceptingOf}
 use Rattle.costs.specs.declared.Figures.{Figures}
 use Rattle.costs.specs.declared.Valuation.the-variants.{Valued, Refused}
 use Rattle.costs.specs.Valuation.{figures, valuation}
-use Rattle.valuation.specs.Lines.{printed}
+use Rattle.report.specs.Lines.{printed}
 use Rattle.valuation.specs.Answers.{fitting, valuedOf}
 use Rattle.kuyeshan.specs.Statements.{Numbered, ReadingNumbered, AcceptingNumbered, ValuingNumbered, FittingNumbered, MemberNumbered}
 

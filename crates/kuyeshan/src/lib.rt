@@ -1,4 +1,4 @@
-// The library for programs in C and Rust: the entries of valuation, casefile and costs, exported under C names. An export
+// The library for programs in C and Rust: the entries of valuation, casefile and plain_engine, exported under C names. An export
 // answers a refusal's number, 0 for none; a line or a count goes to a place that the caller lends. None has a
 // `requires`, and every place that is lent has its equation on every path. embed/kuyeshan.h declares them for C.
 use casefile::Accepting;
@@ -14,7 +14,7 @@ ghost use Rattle.plan.specs.Acceptance.{planFrom};
 ghost use Rattle.walk.specs.Walk.{walkOf};
 ghost use Rattle.casefile.specs.Answers.{acceptingOf};
 ghost use Rattle.costs.specs.Valuation.{valuation};
-ghost use Rattle.valuation.specs.Lines.{refusalLine};
+ghost use Rattle.report.specs.Lines.{refusalLine};
 ghost use Rattle.valuation.specs.Answers.{fitting, valuedOf, buffer};
 ghost use Rattle.kuyeshan.specs.Answers.{numberOf, lineOf, writtenOf};
 ghost use Rattle.walk.specs.Lines.{memberFrom};
@@ -123,7 +123,7 @@ pub extern "C" fn kuyeshan_value_member(
 {
     let p = plan_from(plan);
     let m = member_of(member);
-    match costs::value_member(p, *rows, m) {
+    match plain_engine::value_member(p, *rows, m) {
         Valuation::Valued(f) => {
             *figures = [f.benefit, f.value, f.cost, f.liability];
             0

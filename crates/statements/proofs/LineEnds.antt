@@ -16,7 +16,7 @@ use Rattle.plan.specs.declared.Member.{Member}
 use Rattle.walk.specs.Kept.{nobody}
 use Rattle.printing.specs.Amounts.{digits, whole, amount}
 use Rattle.printing.specs.Lines.{fields, amountsLine}
-use Rattle.valuation.specs.Lines.{figuresLine, memberLine, memberLines}
+use Rattle.report.specs.Lines.{figuresLine, memberLine, memberLines}
 use Rattle.statements.specs.LinesOf.{linesPast}
 
 -- ---- texts with no byte 10

@@ -17,7 +17,7 @@ use Rattle.walk.proofs.OutcomeLaws.{no-values, values-one, then-values}
 use Rattle.walk.proofs.Accepted.{accepted-keeps}
 use Rattle.casefile.specs.Answers.{acceptingOf}
 use Rattle.totals.specs.Totals.{total, unfunded, supplemental}
-use Rattle.valuation.specs.Lines.{memberLine, planLines, printed}
+use Rattle.report.specs.Lines.{memberLine, planLines, printed}
 use Rattle.valuation.specs.Answers.{fitting, valuedOf}
 use Rattle.statements.specs.LinesOf.{linesPast, lineAt, linesBefore}
 use Rattle.statements.specs.Statements.{Every-Member, Members-Are-Lines, Plan-Lines, Independence, Totals-Are-Sums, Totals-Accuracy, supplemental*, Supplemental-Accuracy}

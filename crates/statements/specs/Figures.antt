@@ -22,7 +22,7 @@ use Rattle.fields.specs.Text.{bytes}
 use Rattle.printing.specs.Amounts.{digits, width, whole as wholeText, amount, signedAmount}
 use Rattle.printing.specs.Lines.{fields, amountsLine, signedLine}
 use Rattle.totals.specs.Totals.{total, unfunded, supplemental}
-use Rattle.valuation.specs.Lines.{figuresLine, totalLine, planLines, memberLine, memberLines, printed}
+use Rattle.report.specs.Lines.{figuresLine, totalLine, planLines, memberLine, memberLines, printed}
 
 -- rule 14.8, the short plan overfunded: no member, and assets of 100.00
 abbrev over-plan : Plan

@@ -29,7 +29,7 @@ use Rattle.casefile.specs.Answers.{acceptingOf}
 use Rattle.printing.specs.Amounts.{amount, whole as wholeNumber}
 use Rattle.printing.specs.Lines.{signedLine}
 use Rattle.totals.specs.Totals.{total, total*, totals, unfunded, supplemental}
-use Rattle.valuation.specs.Lines.{figuresLine, totalLine}
+use Rattle.report.specs.Lines.{figuresLine, totalLine}
 use Rattle.valuation.specs.Answers.{valuedOf}
 use Rattle.statements.specs.LinesOf.{linesPast, lineAt, firstMember}
 

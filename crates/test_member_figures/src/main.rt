@@ -48,7 +48,7 @@ fn answer(bytes: &[u8; SIZE]) {
     let m = member_of(bytes);
     accepting(accept_plan(p, rows));
     accepting(accept_member(p, rows, m));
-    match costs::value_member(p, rows, m) {
+    match plain_engine::value_member(p, rows, m) {
         Valuation::Valued(f) => figures(f),
         Valuation::Refused(number, line) => refused(number, line),
     }

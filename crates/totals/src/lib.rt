@@ -1,5 +1,5 @@
 // The figures of all members and the plan's own: RULES section 11. `work` fills the array of figures and sums them, one
-// after the other; the text is the crate valuation's. specs/Totals.antt has the totals, specs/Worked.antt what the array
+// after the other; the text is the crate report's. specs/Totals.antt has the totals, specs/Worked.antt what the array
 // holds.
 use rates::Rows;
 use costs::Figures;
@@ -66,7 +66,7 @@ fn fill_figures(p: Plan, rows: Rows, members: &Members, count: usize, worked: &m
     *worked = [[0u64; 4]; 1000];
     let mut j = 0;
     while j < count {
-        let f = costs::figures_of(p, rows, member_at(members, j));
+        let f = plain_engine::figures_of(p, rows, member_at(members, j));
         worked[j] = [f.benefit, f.value, f.cost, f.liability];
         j += 1;
     }

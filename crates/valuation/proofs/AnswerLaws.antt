@@ -1,63 +1,29 @@
--- From the arrays to what is printed, and from what is printed to the answer and the buffer.
+-- From what is printed to the answer and the buffer.
 use mathlib.Core.Path.{_≡_, refl, sym, _∙_, ap}
 use mathlib.Core.Bool.{Bool, true, false, cond}
-use mathlib.Core.List.{List, [], _∷_, _++_, append-assoc, append-nil}
+use mathlib.Core.List.{List}
 use Prim.Native.Nat.{ℕ, zero, suc, _+_, _^_, _≤_, _<_}
 use native.Mathlib.Omega.{arith}
 use borrow.Author.Tests.{le-leb, lt-leb}
 use lib.Dec.{leb}
-use lib.ListN.{length, getD, take, length-append}
+use lib.ListN.{length, getD, take}
 use lib.Seq.{sets-eq, take-suc, take-length}
-use lib.IntN.{pos, _-ℤ_, _*ℤ_}
-use Rattle.rounding.specs.Nearest.{nearestℤ}
-use Rattle.rounding.specs.declared.Signed.{Signed}
-use Rattle.rounding.specs.Signed.{integer, signed}
-use Rattle.annuity.specs.Factors.{S, C}
 use Rattle.plan.specs.declared.Plan.{Plan}
 use Rattle.plan.specs.declared.Member.{Member}
 use Rattle.plan.proofs.Facts.{member-facts}
-use Rattle.casefile.specs.declared.Accepting.the-variants.{Accepted as CaseAccepted, Refused as CaseRefused}
 use Rattle.walk.specs.Outcome.{Outcome, values, refusal, andThen}
 use Rattle.walk.specs.Walk.{Case}
 use Rattle.walk.specs.Kept.{AcceptedCase, nobody}
+use Rattle.casefile.specs.declared.Accepting.the-variants.{Accepted as CaseAccepted, Refused as CaseRefused}
 use Rattle.casefile.specs.Answers.{acceptingOf, accepting}
 use Rattle.casefile.specs.Stored.{memberAt, arrayOf, idBeforeAt, rowsAfter, membersAfter, AcceptedArrays}
 use Rattle.casefile.proofs.Arrays.{array-member, accepted-case}
-use Rattle.printing.specs.Lines.{pairLine}
+use Rattle.totals.specs.Worked.{membersIn, AcceptedMembers}
 use Rattle.printing.specs.Puts.{Puts}
-use Rattle.printing.proofs.AmountLaws.{whole-most}
+use Rattle.report.specs.Lines.{printed, refusalLine}
+use Rattle.report.proofs.PrintedLaws.{refusal-line-most}
 use Rattle.valuation.specs.declared.Answer.the-variants.{Written, Refused}
-use Rattle.totals.specs.declared.Totals.{Totals}
-use Rattle.totals.specs.Totals.{totals, unfunded, supplemental}
-use Rattle.valuation.specs.Lines.{memberLine, memberLines, planLines, printed, refusalLine}
 use Rattle.valuation.specs.Answers.{fitting, valuedOf, answer, buffer, orRefusal, programOf, Writes}
-use Rattle.totals.specs.Worked.{membersIn, AcceptedMembers, Worked}
-use Rattle.valuation.specs.Worked.{linesIn}
-use Rattle.totals.proofs.TotalLaws.{integer-signed}
-
--- ---- the arrays hold what is printed
-module _ (p : Plan) (rows : List (List ℕ)) where
-  lines-more : (l : List Member) (m : Member) → memberLines p rows (l ++ m ∷ []) ≡ memberLines p rows l ++ memberLine p rows m
-  unfolding memberLines
-  lines-more [] m = append-nil (memberLine p rows m)
-  lines-more (x ∷ l) m = rw (lines-more l m) (sym (append-assoc (memberLine p rows x) (memberLines p rows l) (memberLine p rows m)))
-
-  module _ (members worked : List (List ℕ)) where
-    lines-are : (n : ℕ) → Worked p rows members worked n → linesIn members worked n ≡ memberLines p rows (membersIn members n)
-    unfolding linesIn membersIn memberLines memberLine
-    lines-are zero is = refl
-    lines-are (suc n) is =
-        rw (is n (omega arith), lines-are n (λ j h. is j (omega arith))) (sym (lines-more (membersIn members n) (memberAt members n)))
-
-    pub members-count : (n : ℕ) → length (membersIn members n) ≡ n
-    unfolding membersIn
-    members-count zero = refl
-    members-count (suc n) = simp (length-append, members-count n) (omega arith)
-
-    pub printed-is : (n : ℕ) {t : Totals} {u s : Signed} → Worked p rows members worked n → t ≡ totals p rows (membersIn members n) → u ≡ signed (pos (t .liability) -ℤ pos (p .assets)) → s ≡ signed (nearestℤ (integer u *ℤ pos S) (C (p .interest) (p .years))) → linesIn members worked n ++ planLines n t (integer u) (integer s) ≡ printed p rows (membersIn members n)
-    unfolding printed unfunded supplemental
-    printed-is n is sums z w =
-        rw (w, z, integer-signed, integer-signed, sums, lines-are n is, members-count n)
 
 -- ---- the answer and the buffer: the lines are measured in a buffer `none`, and written where they fit
 pub too-long : (old : List ℕ) {lines none after : List ℕ} {needed : ℕ} → Puts none 0 lines after needed → length old < needed → (Refused 30 0 ≡ answer (fitting (length old) lines)) × (old ≡ buffer (fitting (length old) lines) old)
@@ -112,12 +78,6 @@ module _ (s : List ℕ) (room : ℕ) where
   valued-refused = refused-by (acceptingOf s) (λ c. fitting room (printed (c .plan) (c .rows) (c .members)))
 
 -- ---- what the program prints, from the two answers
--- a word has 20 digits at most, so that the line of a refusal has 50 bytes at most
-pub refusal-line-most : (number line : ℕ) → number < 2 ^ 64 → line < 2 ^ 64 → length (refusalLine number line) ≤ 50
-unfolding refusalLine pairLine
-refusal-line-most number line hn hl =
-    simp length-append (omega (arith, whole-most 19 number (omega arith), whole-most 19 line (omega arith)))
-
 -- where its line fits it is written, and where it doesn't the refusal stays what it was
 module _ (old : List ℕ) (number line : ℕ) where
   fits-or-not : (t : Bool) {n : ℕ} → Written n ≡ answer (cond t (values (refusalLine number line)) (refusal 30 0)) → t ≡ true

@@ -1,3 +1,2 @@
 -- Laws that no function owns.
-pub mod PrintedLaws
 pub mod AnswerLaws

@@ -10,7 +10,7 @@ use Rattle.walk.specs.Outcome.{Outcome, values, refusal, andThen}
 use Rattle.casefile.specs.Answers.{acceptingOf}
 use Rattle.valuation.specs.declared.Answer.{Answer}
 use Rattle.valuation.specs.declared.Answer.the-variants.{Written, Refused}
-use Rattle.valuation.specs.Lines.{printed, refusalLine}
+use Rattle.report.specs.Lines.{printed, refusalLine}
 
 -- rule 12.3, refusal 30: the lines need more room than there is
 unfoldable pub fitting : (room : ℕ) → List ℕ → Outcome (List ℕ)

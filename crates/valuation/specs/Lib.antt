@@ -1,4 +1,2 @@
--- A whole plan, RULES sections 12 and 13: the lines that are printed, and the answer with the buffer. What is stated of them is the crate statements.
-pub mod Lines
+-- A whole plan, RULES sections 12 and 13: the answer, with the buffer. What is stated of it is the crate statements.
 pub mod Answers
-pub mod Worked

@@ -1,10 +1,7 @@
-// The valuation of a whole plan, as text: RULES section 13. lines.rt writes the lines; specs/ has the lines and the
-// answers; the figures and their totals are the crate totals'. The entries are value_case, refusal_line
-// and print_case here, and those of the layers below, which are passed on: read_case, accept_case, accept_plan,
+// The valuation of a whole plan, as text: RULES sections 12 and 13. The lines are the crate report's, the figures and
+// their totals the crate totals'; here is what fits the buffer, and what is answered. The entries are value_case,
+// refusal_line and print_case, and those of the layers below, which are passed on: read_case, accept_case, accept_plan,
 // accept_member, value_member. None has a `requires`.
-mod lines;
-
-use crate::lines::write_lines;
 use rates::Rows;
 pub use casefile::Accepting;
 pub use casefile::Reading;
@@ -12,14 +9,15 @@ pub use casefile::accept_case;
 pub use casefile::read_case;
 pub use costs::Figures;
 pub use costs::Valuation;
-pub use costs::value_member;
+pub use plain_engine::value_member;
 pub use plan::Member;
 use plan::Members;
 pub use plan::Plan;
 pub use plan::acceptance::Acceptance;
 pub use plan::acceptance::accept_member;
 pub use plan::acceptance::accept_plan;
-use printing::lines::write_pair_line;
+use report::write_lines;
+use report::write_refusal;
 use totals::supplemental_of;
 use totals::unfunded_of;
 use totals::work;
@@ -27,8 +25,7 @@ ghost use mathlib.Core.Path.{_≡_};
 ghost use Prim.Native.Nat.{_≤_};
 ghost use lib.ListN.{length};
 ghost use Rattle.walk.specs.Outcome.{refusal};
-ghost use Rattle.printing.specs.Puts.{Puts};
-ghost use Rattle.valuation.specs.Lines.{printed, refusalLine};
+ghost use Rattle.report.specs.Lines.{printed, refusalLine};
 ghost use Rattle.valuation.specs.Answers.{fitting, valuedOf, answer, buffer, orRefusal, programOf, Writes};
 ghost use Rattle.totals.specs.Worked.{AcceptedMembers, membersIn};
 
@@ -90,13 +87,6 @@ pub fn refusal_line(number: u64, line: u64, out: &mut [u8]) -> Answer
     }
     let end = write_refusal(out, number, line);
     Answer::Written(end)
-}
-
-// Writes the line of a refusal.
-fn write_refusal(out: &mut [u8], number: u64, line: u64) -> usize
-    ensures { λ r. ⌜ Puts (now (out .entry)) 0 (refusalLine number line) (now (out .exit)) r ⌝ }
-{
-    write_pair_line(out, 0, b"refused=", number, line)
 }
 
 // Rule 13.1, what the program prints of a case file, at the start of `out`: its lines, or the one line of its refusal.

@@ -1,7 +1,7 @@
 -- `kuyeshan::kuyeshan_refusal_line` meets its contract.
 use native.Mathlib.Omega.{arith}
 use lib.ListN.{length}
-use Rattle.valuation.specs.Lines.{refusalLine}
+use Rattle.report.specs.Lines.{refusalLine}
 use Rattle.valuation.specs.Answers.{fitting}
 use Rattle.kuyeshan.proofs.AnswerLaws.{written-is, write-refused}
 use Rattle.kuyeshan.proofs.kuyeshan_refusal_line.Statement.{statement}

@@ -2,7 +2,8 @@
 use borrow.Author.Needs.{needs}
 use native.Mathlib.Omega.{arith}
 use Rattle.plan.proofs.Facts.{plan-facts}
-use Rattle.valuation.proofs.AnswerLaws.{printed-is, too-long, written}
+use Rattle.report.proofs.PrintedLaws.{printed-is}
+use Rattle.valuation.proofs.AnswerLaws.{too-long, written}
 use Rattle.valuation.proofs.value_accepted.Statement.{statement}
 use Rattle.valuation.proofs.value_accepted.Tie as tie
 

@@ -1,0 +1,38 @@
+// The plain engine: a member's figures by factors of its own. parts.rt works the parts, of which the crate costs makes the
+// figures. `value_member` is the entry: it has no `requires`, and its contract is the figures' equation and the limits
+// on its N and L.
+mod parts;
+
+use annuity::Rows;
+use costs::Figures;
+use costs::Valuation;
+use costs::method_of;
+use costs::parts::figures_from;
+use plan::Member;
+use plan::Plan;
+use plan::acceptance::lone_refusal;
+ghost use mathlib.Core.Path.{_≡_};
+ghost use Rattle.plan.specs.Acceptance.{AcceptedMember};
+ghost use Rattle.costs.specs.Valuation.{figures, valuation, Limited};
+
+// Rules 5.5 and 9.11: values a lone member of a plan.
+pub fn value_member(p: Plan, rows: Rows, m: Member) -> Valuation
+    ensures figures { λ r. ⌜ r ≡ valuation p rows m ⌝ }
+    ensures limits { λ r. ⌜ Limited p rows m r ⌝ }
+{
+    let refusal = lone_refusal(p, rows, m);
+    if refusal != 0 {
+        return Valuation::Refused(refusal, 0);
+    }
+    Valuation::Valued(figures_of(p, rows, m))
+}
+
+// The figures of an accepted member at its own age, by the plan's method and by factors of its own.
+pub fn figures_of(p: Plan, rows: Rows, m: Member) -> Figures
+    requires { ⌜ AcceptedMember p rows m ⌝ }
+    ensures { λ f. ⌜ f ≡ figures p rows m ⌝ }
+{
+    let method = method_of(p.method);
+    let parts = parts::parts_at(p, &rows, m, method, m.age as usize);
+    figures_from(parts, method)
+}
