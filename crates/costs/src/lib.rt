@@ -7,12 +7,12 @@
 mod parts;
 mod plain;
 
+use acceptance::lone_refusal;
 use plan::Member;
 use plan::Method;
 use plan::Plan;
-use plan::acceptance::lone_refusal;
 ghost use mathlib.Core.Path.{_≡_};
-ghost use Rattle.plan.specs.Acceptance.{AcceptedMember};
+ghost use Rattle.plan.specs.Ranges.{AcceptedMember};
 ghost use Rattle.costs.specs.Valuation.{methodOf, figures, valuation, Limited};
 
 // The benefit B(r), its present value V, the normal cost N and the liability L, in cents.

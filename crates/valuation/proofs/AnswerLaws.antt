@@ -15,7 +15,7 @@ use Rattle.rounding.specs.Signed.{integer, signed}
 use Rattle.annuity.specs.Factors.{S, C}
 use Rattle.plan.specs.declared.Plan.{Plan}
 use Rattle.plan.specs.declared.Member.{Member}
-use Rattle.plan.proofs.Facts.{member-facts}
+use Rattle.acceptance.proofs.Facts.{member-facts}
 use Rattle.casefile.specs.declared.Accepting.the-variants.{Accepted as CaseAccepted, Refused as CaseRefused}
 use Rattle.walk.specs.Outcome.{Outcome, values, refusal, andThen}
 use Rattle.walk.specs.Walk.{Case}

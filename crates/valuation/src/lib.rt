@@ -5,6 +5,9 @@
 mod lines;
 
 use crate::lines::write_lines;
+pub use acceptance::Acceptance;
+pub use acceptance::accept_member;
+pub use acceptance::accept_plan;
 use annuity::Rows;
 pub use casefile::Accepting;
 pub use casefile::Reading;
@@ -16,9 +19,6 @@ pub use costs::value_member;
 pub use plan::Member;
 use plan::Members;
 pub use plan::Plan;
-pub use plan::acceptance::Acceptance;
-pub use plan::acceptance::accept_member;
-pub use plan::acceptance::accept_plan;
 use printing::lines::write_pair_line;
 use totals::supplemental_of;
 use totals::unfunded_of;
