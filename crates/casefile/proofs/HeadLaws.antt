@@ -13,7 +13,7 @@ use Rattle.fields.specs.declared.lines.Line.the-variants.{Good, Wrong, Cut}
 use Rattle.fields.specs.Split.{uptoOf, pastOf}
 use Rattle.fields.specs.Values.{Values, Held}
 use Rattle.fields.proofs.AnswerLaws.{is-good, is-wrong, is-cut, Answers}
-use Rattle.plan.specs.Acceptance.{termRule, unitRule, averageRule}
+use Rattle.acceptance.specs.Acceptance.{termRule, unitRule, averageRule}
 use Rattle.walk.specs.Outcome.{refusal, settled}
 use Rattle.walk.specs.Terms.{termForms, termForm, termRefusal}
 use Rattle.walk.specs.Step.{heading, right, withTerm, afterTerm, termLine, lineOf}

@@ -16,10 +16,10 @@ use Rattle.fields.specs.Split.{uptoOf, pastOf}
 use Rattle.fields.specs.Values.{Values}
 use Rattle.fields.proofs.SplitLaws.{and-true-left, and-true-right}
 use Rattle.fields.proofs.AnswerLaws.{is-good, is-wrong, is-cut, Answers}
-use Rattle.plan.specs.Rules.{firstOf, between}
-use Rattle.plan.specs.Acceptance.{rowRules, rowNumbers, weightBefore}
-use Rattle.plan.proofs.RuleLaws.{weight-passed}
-use Rattle.plan.proofs.Facts.{all-kept, kept}
+use Rattle.acceptance.specs.Rules.{firstOf, between}
+use Rattle.acceptance.specs.Acceptance.{rowRules, rowNumbers, weightBefore}
+use Rattle.acceptance.proofs.RuleLaws.{weight-passed}
+use Rattle.acceptance.proofs.Facts.{all-kept, kept}
 use Rattle.walk.specs.Outcome.{refusal, settled}
 use Rattle.walk.specs.Lines.{rowOf, ages, dueAge, rowRefusal}
 use Rattle.walk.specs.Step.{table, right, withRow, afterRow, rowLine, lineOf}

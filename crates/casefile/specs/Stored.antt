@@ -6,7 +6,7 @@ use lib.ListN.{getD, replicate}
 use lib.Seq.{sets}
 use Rattle.plan.specs.declared.Plan.{Plan}
 use Rattle.plan.specs.declared.Member.{Member}
-use Rattle.plan.specs.Acceptance.{planRefusal, memberRefusal}
+use Rattle.acceptance.specs.Acceptance.{planRefusal, memberRefusal}
 use Rattle.walk.specs.Outcome.{Outcome, values, refusal}
 use Rattle.walk.specs.Lines.{mostMembers, memberFrom}
 use Rattle.walk.specs.Walk.{Case}

@@ -14,7 +14,7 @@ ghost use mathlib.Core.Bool.{true, false};
 ghost use Prim.Native.Nat.{_+_, _≤_};
 ghost use Rattle.fields.specs.Text.{bytes};
 ghost use Rattle.fields.specs.Split.{startsOf};
-ghost use Rattle.plan.specs.Acceptance.{planRefusal, memberRefusal, planFrom};
+ghost use Rattle.acceptance.specs.Acceptance.{planRefusal, memberRefusal, planFrom};
 ghost use Rattle.walk.specs.Outcome.{settled};
 ghost use Rattle.walk.specs.Lines.{memberFrom};
 ghost use Rattle.walk.specs.Step.{Head};
@@ -99,7 +99,7 @@ fn member_refusal(ranges: bool, p: Plan, rows: &Rows, before: u64, m: Member) ->
     ensures { λ r. ⌜ r ≡ settled ranges (memberRefusal p (now (rows .entry)) before m) ⌝ }
 {
     if ranges {
-        plan::acceptance::member_refusal(p, rows, before, m)
+        acceptance::member_refusal(p, rows, before, m)
     } else {
         0
     }

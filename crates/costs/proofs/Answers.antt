@@ -5,8 +5,9 @@ use Prim.Native.Nat.{ℕ}
 use borrow.Author.Tests.{eq-eqb, ne-eqb}
 use Rattle.plan.specs.declared.Plan.{Plan}
 use Rattle.plan.specs.declared.Member.{Member}
-use Rattle.plan.specs.Acceptance.{loneRefusal, AcceptedMember}
-use Rattle.plan.proofs.Facts.{member-facts}
+use Rattle.acceptance.specs.Acceptance.{loneRefusal}
+use Rattle.plan.specs.Ranges.{AcceptedMember}
+use Rattle.acceptance.proofs.Facts.{member-facts}
 use Rattle.costs.specs.declared.Figures.{Figures}
 use Rattle.costs.specs.declared.Valuation.the-variants.{Valued, Refused}
 use Rattle.costs.specs.Valuation.{methodOf, caseOf, figuresAt, figures, valuation, Limited, Demand-3-Forms, Demand-3-Limits, Demand-3-Sharp-Limits}

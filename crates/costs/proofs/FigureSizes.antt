@@ -19,8 +19,7 @@ use Rattle.plan.specs.declared.Member.{Member}
 use Rattle.plan.specs.declared.Method.{Method}
 use Rattle.plan.specs.declared.Method.the-variants.{AB, BD, BP, CD, CP}
 use Rattle.plan.specs.Benefit.{B}
-use Rattle.plan.specs.Acceptance.{AcceptedMember}
-use Rattle.plan.proofs.Facts.{PlanFacts}
+use Rattle.plan.specs.Ranges.{PlanRanges, AcceptedMember}
 use Rattle.costs.specs.declared.Figures.{Figures}
 use Rattle.costs.specs.Costs.{PV, cost, N, L}
 use Rattle.costs.specs.Valuation.{methodOf, planBasis, caseOf, figuresAt, figures}
@@ -74,7 +73,7 @@ module _ (p : Plan) (rows : List (List ℕ)) (m : Member) (accepted : AcceptedMe
   abbrev r : ℕ
   r = p .retire
 
-  f : PlanFacts p rows
+  f : PlanRanges p rows
   f = facts p rows m accepted
 
   enters : y < r

@@ -11,9 +11,8 @@ use Rattle.annuity.proofs.Bases.{basis-fair}
 use Rattle.annuity.proofs.Sizes.{G-most, Z-least}
 use Rattle.plan.specs.declared.Plan.{Plan}
 use Rattle.plan.specs.declared.Member.{Member}
-use Rattle.plan.specs.Acceptance.{AcceptedMember}
-use Rattle.plan.proofs.Facts.{PlanFacts, plan-facts}
-use Rattle.plan.proofs.RiseLaws.{accepted-never-falls}
+use Rattle.plan.specs.Ranges.{PlanRanges, AcceptedMember}
+use Rattle.plan.proofs.RiseLaws.{never-falls, climbing}
 use Rattle.costs.specs.Case.{Sound}
 use Rattle.costs.specs.Valuation.{planBasis, caseOf}
 
@@ -23,8 +22,8 @@ worth-most benefit deferred h =
     omega (arith, nearest-mono (benefit * deferred) (benefit * 71 * S) S (omega arith) (omega (arith, mul-le-mul {n₁ = benefit} {n₂ = benefit} (omega arith) h)), nearest-exact (benefit * 71) S (omega arith))
 
 module _ (p : Plan) (rows : List (List ℕ)) (m : Member) (accepted : AcceptedMember p rows m) where
-  pub facts : PlanFacts p rows
-  facts = plan-facts p rows (accepted .plan)
+  pub facts : PlanRanges p rows
+  facts = accepted .plan
 
   pub sound : Sound (caseOf p rows m)
   sound =
@@ -37,7 +36,7 @@ module _ (p : Plan) (rows : List (List ℕ)) (m : Member) (accepted : AcceptedMe
         weighty = λ k from to. facts .least k (omega (arith, accepted .placed .grown)) (omega (arith, facts .head .retire .1));
         climbs = λ k from to. facts .climbs k (omega (arith, accepted .placed .grown)) (omega (arith, facts .head .retire .1));
         capped = accepted .capped;
-        rises = accepted-never-falls p rows m (accepted .plan) (accepted .placed);
+        rises = never-falls p rows m (facts .head) (climbing facts) (accepted .placed);
       }
 
   -- an age of its own lies in the table

@@ -11,7 +11,7 @@ use Rattle.plan.specs.declared.Plan.{Plan}
 use Rattle.plan.specs.declared.Member.{Member}
 use Rattle.plan.specs.declared.Method.{Method}
 use Rattle.plan.specs.declared.Method.the-variants.{AB, BD, BP, CD, CP}
-use Rattle.plan.specs.Acceptance.{AcceptedMember}
+use Rattle.plan.specs.Ranges.{AcceptedMember}
 use Rattle.costs.specs.declared.Figures.{Figures}
 use Rattle.costs.specs.declared.parts.Parts.{Parts}
 use Rattle.costs.specs.Case.{Case}

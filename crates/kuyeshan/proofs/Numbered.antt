@@ -6,7 +6,7 @@ use native.Mathlib.Omega.{arith}
 use borrow.Author.Tests.{ne-eqb}
 use lib.Dec.{leb, eqb}
 use lib.ListN.{length}
-use Rattle.plan.specs.Acceptance.{loneRefusal}
+use Rattle.acceptance.specs.Acceptance.{loneRefusal}
 use Rattle.walk.specs.Outcome.{Outcome, values, refusal, andThen}
 use Rattle.walk.specs.Answers.{Part, FormOf, term-cut, term-form, row-cut, row-form, tail-cut, count, tail-form, surplus, after-end, RangeOf, of-a-term, of-average, of-a-rate, of-death, of-weight, of-id, of-entry, of-age, of-salary, of-benefit, Placed, no-line, of-form, of-range}
 use Rattle.walk.proofs.Theorems.{refusals-are-placed}

@@ -3,16 +3,16 @@
 // on its N and L.
 mod parts;
 
-use annuity::Rows;
+use rates::Rows;
 use costs::Figures;
 use costs::Valuation;
 use costs::method_of;
 use costs::parts::figures_from;
 use plan::Member;
 use plan::Plan;
-use plan::acceptance::lone_refusal;
+use acceptance::lone_refusal;
 ghost use mathlib.Core.Path.{_≡_};
-ghost use Rattle.plan.specs.Acceptance.{AcceptedMember};
+ghost use Rattle.plan.specs.Ranges.{AcceptedMember};
 ghost use Rattle.costs.specs.Valuation.{figures, valuation, Limited};
 
 // Rules 5.5 and 9.11: values a lone member of a plan.

@@ -1,5 +1,5 @@
 // The parts of a member's figures by factors of its own, each worked once, and only those that the method asks for.
-use annuity::Rows;
+use rates::Rows;
 use costs::parts::Parts;
 use plan::Member;
 use plan::Method;
@@ -12,7 +12,7 @@ ghost use lib.ListN.{getD};
 ghost use Rattle.rates.specs.Table.{weight};
 ghost use Rattle.annuity.specs.Factors.{T, Z};
 ghost use Rattle.plan.specs.Weights.{summed};
-ghost use Rattle.plan.specs.Acceptance.{AcceptedMember};
+ghost use Rattle.plan.specs.Ranges.{AcceptedMember};
 ghost use Rattle.costs.specs.Valuation.{caseOf, planBasis};
 ghost use Rattle.costs.specs.Parts.{earned as Parts·earned, added as Parts·added, adds as Parts·adds, divisor as Parts·divisor, partsAt};
 

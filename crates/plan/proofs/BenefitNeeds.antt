@@ -1,4 +1,4 @@
--- What the benefit's code needs: the sums of an accepted plan's weights, and that no product passes 64 bits.
+-- What the benefit's code needs: the sums of a plan's weights, and that no product passes 64 bits.
 use mathlib.Core.Path.{_≡_, refl}
 use mathlib.Core.List.{List}
 use mathlib.Core.Bool.{Bool, true, false}
@@ -14,9 +14,8 @@ use Rattle.plan.specs.declared.Formula.{Formula}
 use Rattle.plan.specs.declared.Formula.the-variants.{Flat, Career, Final}
 use Rattle.plan.specs.Weights.{summed, firstPaid}
 use Rattle.plan.specs.Benefit.{formulaOf}
-use Rattle.plan.specs.Acceptance.{planRefusal, Placed}
+use Rattle.plan.specs.Ranges.{PlanRanges, Placed}
 use Rattle.plan.proofs.WeightLaws.{summed-most}
-use Rattle.plan.proofs.Facts.{PlanFacts, plan-facts}
 
 -- ---- products that fit a word
 pub career-fits : (unit salary weights : ℕ) → unit ≤ 500 → salary ≤ 100000000 → weights ≤ 10600000 → unit * (salary * weights) ≤ 500 * (100000000 * 10600000)
@@ -66,30 +65,27 @@ pub record PaidAges (first k : ℕ) : Type 0 where
   pub le : first ≤ k
   pub high : k ≤ 120
 
--- ---- of an accepted plan
-module _ (p : Plan) (rows : List (List ℕ)) (accepted : planRefusal p rows ≡ 0) where
-  facts : PlanFacts p rows
-  facts = plan-facts p rows accepted
-
+-- ---- of a plan in its ranges
+module _ {p : Plan} {rows : List (List ℕ)} (ranges : PlanRanges p rows) where
   pub weight-some : (k : ℕ) → 15 ≤ k → k ≤ 120 → 0 < weight rows k
-  weight-some k low high = omega (arith, facts .least k low high)
+  weight-some k low high = omega (arith, ranges .least k low high)
 
   -- ---- and of a member of it, at an age k from entry to retirement
-  module _ (m : Member) (placed : Placed p m) where
+  module _ {m : Member} (placed : Placed p m) where
     pub age-low : 15 ≤ m .age
     age-low = omega (arith, placed .grown, placed .past-entry)
 
     pub age-high : m .age ≤ 120
-    age-high = omega (arith, placed .not-past, facts .head .retire .1)
+    age-high = omega (arith, placed .not-past, ranges .head .retire .1)
 
     pub now-some : 0 < weight rows (m .age)
     now-some = weight-some (m .age) age-low age-high
 
     pub now-most : weight rows (m .age) ≤ 100000
-    now-most = facts .table (m .age) age-low age-high .weight
+    now-most = ranges .table (m .age) age-low age-high .weight
 
     pub years-most : (k : ℕ) → k ≤ p .retire → k - m .entry ≤ 60
-    years-most k h = omega (arith, placed .grown, facts .head .retire .1)
+    years-most k h = omega (arith, placed .grown, ranges .head .retire .1)
 
     pub paid-ages : (k : ℕ) → m .entry ≤ k → k ≤ p .retire → {first : ℕ} → first ≡ firstPaid (formulaOf (p .formula)) (p .average) (m .entry) k → PaidAges first k
     paid-ages k from to e =
@@ -97,5 +93,5 @@ module _ (p : Plan) (rows : List (List ℕ)) (accepted : planRefusal p rows ≡ 
         record {
           low = omega (arith, e, among .0, placed .grown);
           le = omega (arith, e, among .1);
-          high = omega (arith, facts .head .retire .1);
+          high = omega (arith, ranges .head .retire .1);
         }

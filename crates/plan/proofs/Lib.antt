@@ -1,7 +1,5 @@
--- The laws of the rules and of the benefit.
-pub mod RuleLaws
+-- The laws of the benefit.
 pub mod WeightLaws
 pub mod BenefitLaws
-pub mod Facts
 pub mod BenefitNeeds
 pub mod RiseLaws

@@ -17,14 +17,13 @@ use Rattle.plan.specs.declared.Formula.{Formula}
 use Rattle.plan.specs.declared.Formula.the-variants.{Flat, Career, Final}
 use Rattle.plan.specs.Weights.{summed}
 use Rattle.plan.specs.Benefit.{formulaOf, B}
-use Rattle.plan.specs.Acceptance.{Placed}
-use Rattle.plan.specs.Rising.{Rising, Climbing, Never-Falls, Accepted-Never-Falls}
+use Rattle.plan.specs.Ranges.{HeadRanges, PlanRanges, Placed}
+use Rattle.plan.specs.Rising.{Rising, Climbing, Never-Falls}
 use Rattle.plan.proofs.WeightLaws.{summed-more, summed-climbs}
 use Rattle.plan.proofs.BenefitLaws.{final-code, none-at-entry, flat-benefit, career-benefit, final-benefit}
-use Rattle.plan.proofs.Facts.{HeadFacts, head-facts, plan-facts}
 use Rattle.plan.proofs.BenefitNeeds.{weight-some}
 
-module _ (p : Plan) (rows : List (List ℕ)) (m : Member) (head : HeadFacts p) (weights : Climbing rows) (placed : Placed p m) where
+module _ (p : Plan) (rows : List (List ℕ)) (m : Member) (head : HeadRanges p) (weights : Climbing rows) (placed : Placed p m) where
   open Plan p using (unit, average, retire)
   open Member m using (entry, age, salary)
 
@@ -102,10 +101,8 @@ module _ (p : Plan) (rows : List (List ℕ)) (m : Member) (head : HeadFacts p) (
       (eq-or-lt-of-le from)
 
 pub never-falls : Never-Falls
-never-falls p rows m kept weights placed = rising p rows m (head-facts p kept) weights placed
+never-falls p rows m head weights placed = rising p rows m head weights placed
 
-pub accepted-never-falls : Accepted-Never-Falls
-accepted-never-falls p rows m accepted placed =
-    let facts = plan-facts p rows accepted in
-    let weights : Climbing rows = record { above = weight-some p rows accepted; climbs = facts .climbs } in
-    rising p rows m (facts .head) weights placed
+-- a table in its ranges has such weights
+pub climbing : {p : Plan} {rows : List (List ℕ)} → PlanRanges p rows → Climbing rows
+climbing ranges = record { above = weight-some ranges; climbs = ranges .climbs }

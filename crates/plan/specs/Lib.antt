@@ -1,6 +1,4 @@
-pub mod Refusals
-pub mod Rules
 pub mod Weights
 pub mod Benefit
-pub mod Acceptance
+pub mod Ranges
 pub mod Rising

@@ -1,13 +1,11 @@
 -- Rule 7.9, what follows from the others: the accrued benefit never falls. So no file is refused for it.
-use mathlib.Core.Path.{_≡_}
 use mathlib.Core.List.{List}
 use Prim.Native.Nat.{ℕ, _+_, _≤_, _<_}
 use Rattle.rates.specs.Table.{weight}
 use Rattle.plan.specs.declared.Plan.{Plan}
 use Rattle.plan.specs.declared.Member.{Member}
-use Rattle.plan.specs.Rules.{firstOf}
 use Rattle.plan.specs.Benefit.{B}
-use Rattle.plan.specs.Acceptance.{headRules, planRefusal, Placed}
+use Rattle.plan.specs.Ranges.{HeadRanges, Placed}
 
 -- rule 7.9: B(k) ≤ B(k+1), for each age k from y to r − 1
 abbrev pub Rising : Plan → List (List ℕ) → Member → Type 0
@@ -18,12 +16,7 @@ pub record Climbing (rows : List (List ℕ)) : Type 0 where
   pub above : (k : ℕ) → 15 ≤ k → k ≤ 120 → 0 < weight rows k
   pub climbs : (k : ℕ) → 15 ≤ k → k < 120 → weight rows k ≤ weight rows (k + 1)
 
--- by each of the three formulas: under a heading that rules 2.2 to 2.9 keep, and of the table by its weights alone
+-- by each of the three formulas: under a heading that keeps rules 2.2 to 2.9, and of the table by its weights alone
 abbrev pub Never-Falls : Type 0
 Never-Falls =
-    (p : Plan) (rows : List (List ℕ)) (m : Member) → firstOf (headRules p) ≡ 0 → Climbing rows → Placed p m → Rising p rows m
-
--- so of every accepted plan, and every member that rules 4.3 to 4.5 keep
-abbrev pub Accepted-Never-Falls : Type 0
-Accepted-Never-Falls =
-    (p : Plan) (rows : List (List ℕ)) (m : Member) → planRefusal p rows ≡ 0 → Placed p m → Rising p rows m
+    (p : Plan) (rows : List (List ℕ)) (m : Member) → HeadRanges p → Climbing rows → Placed p m → Rising p rows m

@@ -1,13 +1,11 @@
-// A plan, its rows and a member handed in as plain values (rules 5.3 to 5.5): the ranges of RULES sections 2, 3 and 4,
-// and pay and benefit, section 7. rules.rt has the rules of single lines, terms.rt the terms by their places, acceptance.rt the order, benefit.rt the
-// accrued benefit. specs/ has what every contract is an equation with, the lists of the rules in Rules and Acceptance,
-// pay and benefit in Benefit and Weights; and in Rising the law that the benefit never falls. A formula or method is a
-// code: 1 flat, 2 career, 3 final; 1 AB, 2 BD, 3 BP, 4 CD, 5 CP; so a field that was never set is refused. Money is in
-// cents, a rate in millionths, and each field is wide enough to hold a wrong value.
-pub mod acceptance;
+// A plan, its rows and a member handed in as plain values (rules 5.3 to 5.5), and pay and benefit, RULES section 7.
+// benefit.rt has the accrued benefit. specs/ has what every contract is an equation with, pay and benefit in Benefit and
+// Weights; in Ranges what the benefit asks of a plan and a member; and in Rising the law that the benefit never falls. A formula
+// or method is a code: 1 flat, 2 career, 3 final; 1 AB, 2 BD, 3 BP, 4 CD, 5 CP; so a field that was never set is refused. Money
+// is in cents, a rate in millionths, and each field is wide enough to hold a wrong value.
 pub mod benefit;
-pub mod rules;
-pub mod terms;
+
+ghost use mathlib.Core.Path.{_≡_};
 
 // Rule 2.4: how the benefit accrues.
 pub enum Formula {
@@ -48,3 +46,10 @@ pub struct Member {
 
 // Rule 4.1: up to 1,000 members, each by its id, entry age, age and salary.
 pub type Members = [[u64; 4]; 1000];
+
+// A number of the table as a word.
+pub fn wide(x: u32) -> u64
+    ensures { λ r. ⌜ r ≡ x ⌝ }
+{
+    x as u64
+}

@@ -15,9 +15,10 @@ use Rattle.annuity.specs.Factors.{S, C}
 use Rattle.annuity.proofs.Sizes.{C-least}
 use Rattle.plan.specs.declared.Plan.{Plan}
 use Rattle.plan.specs.declared.Member.{Member}
-use Rattle.plan.specs.Rules.{unless}
-use Rattle.plan.specs.Acceptance.{fieldRules, benefitRules, memberRefusal, AcceptedMember}
-use Rattle.plan.proofs.Facts.{all-kept, plan-facts, member-facts}
+use Rattle.acceptance.specs.Rules.{unless}
+use Rattle.acceptance.specs.Acceptance.{fieldRules, benefitRules, memberRefusal}
+use Rattle.plan.specs.Ranges.{AcceptedMember}
+use Rattle.acceptance.proofs.Facts.{all-kept, plan-facts, member-facts}
 use Rattle.costs.specs.declared.Figures.{Figures}
 use Rattle.costs.specs.Valuation.{figures}
 use Rattle.costs.proofs.FigureSizes.{Small, figures-small}

@@ -6,7 +6,7 @@ use Prim.Native.Nat.{ℕ, suc, _+_, _-_, _<_}
 use native.Mathlib.Omega.{arith}
 use lib.Dec.{leb}
 use lib.ListN.{length, getD}
-use Rattle.plan.proofs.Facts.{plan-facts, member-facts}
+use Rattle.acceptance.proofs.Facts.{plan-facts, member-facts}
 use Rattle.costs.specs.Demand3.{WithinLimits}
 use Rattle.costs.specs.Valuation.{methodOf, caseOf, figuresAt, figures}
 use Rattle.costs.proofs.Answers.{valued, limited, demand-3-forms, demand-3-sharp-limits}

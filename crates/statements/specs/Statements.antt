@@ -12,7 +12,7 @@ use Rattle.annuity.specs.Accuracy.{Within}
 use Rattle.plan.specs.declared.Plan.{Plan}
 use Rattle.plan.specs.declared.Member.{Member}
 use Rattle.plan.specs.declared.Method.{Method}
-use Rattle.plan.specs.Acceptance.{planRefusal}
+use Rattle.acceptance.specs.Acceptance.{planRefusal}
 use Rattle.costs.specs.declared.Figures.{Figures}
 use Rattle.costs.specs.declared.Valuation.the-variants.{Valued}
 use Rattle.costs.specs.Costs.{PV*, N*, L*}

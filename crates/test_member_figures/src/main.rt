@@ -4,15 +4,15 @@
 // unit, average, method, assets and years in 8 each, then for each age 15 to 120 its death, withdrawal, disability and
 // weight in 4 each, then the member's id, entry, age and salary in 8 each. What it must write was made by another
 // program, tests/test_member_figures.py.
+use acceptance::Acceptance;
+use acceptance::accept_member;
+use acceptance::accept_plan;
 use costs::Figures;
 use costs::Valuation;
 use libc::STDIN_FILENO;
 use libc::STDOUT_FILENO;
 use plan::Member;
 use plan::Plan;
-use plan::acceptance::Acceptance;
-use plan::acceptance::accept_member;
-use plan::acceptance::accept_plan;
 ghost use Prim.Native.Nat.{_+_, _≤_, _<_};
 
 // How many bytes a case has.

@@ -5,7 +5,8 @@ use Prim.Native.Nat.{ℕ, zero, suc, _+_, _≤_, _<_}
 use lib.ListN.{getD}
 use Rattle.plan.specs.declared.Plan.{Plan}
 use Rattle.plan.specs.declared.Member.{Member}
-use Rattle.plan.specs.Acceptance.{planRefusal, AcceptedMember}
+use Rattle.acceptance.specs.Acceptance.{planRefusal}
+use Rattle.plan.specs.Ranges.{AcceptedMember}
 use Rattle.costs.specs.declared.Figures.{Figures}
 use Rattle.costs.specs.Valuation.{figures}
 use Rattle.walk.specs.Lines.{mostMembers}

@@ -10,7 +10,7 @@ use lib.ListN.{length, getD, take}
 use lib.Seq.{sets-eq, take-suc, take-length}
 use Rattle.plan.specs.declared.Plan.{Plan}
 use Rattle.plan.specs.declared.Member.{Member}
-use Rattle.plan.proofs.Facts.{member-facts}
+use Rattle.acceptance.proofs.Facts.{member-facts}
 use Rattle.walk.specs.Outcome.{Outcome, values, refusal, andThen}
 use Rattle.walk.specs.Walk.{Case}
 use Rattle.walk.specs.Kept.{AcceptedCase, nobody}

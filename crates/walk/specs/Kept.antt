@@ -4,7 +4,7 @@ use mathlib.Core.Path.{_≡_}
 use mathlib.Core.List.{List, [], _∷_, _++_}
 use lib.ListN.{length, getD}
 use Rattle.plan.specs.declared.Member.{Member}
-use Rattle.plan.specs.Acceptance.{planRefusal, memberRefusal}
+use Rattle.acceptance.specs.Acceptance.{planRefusal, memberRefusal}
 use Rattle.walk.specs.Terms.{termRefusal}
 use Rattle.walk.specs.Lines.{ages, rowRefusal, mostMembers}
 use Rattle.walk.specs.Step.{Head, State, heading, table, people, ended, personRefusal}

@@ -7,7 +7,7 @@ use Rattle.fields.specs.Text.{bytes}
 use Rattle.fields.specs.Split.{sameOf}
 use Rattle.fields.specs.Numbers.{wholeOf, amountOf}
 use Rattle.fields.specs.Values.{Values, found, misread, keyedOf}
-use Rattle.plan.specs.Acceptance.{termRule}
+use Rattle.acceptance.specs.Acceptance.{termRule}
 
 -- rules 2.4, 2.7 and 5.4: one of some words, and its code, which is its place among them from 1 on
 abbrev pub codedFrom : (code : ℕ) → (words : List (List ℕ)) → List ℕ → Values

@@ -1,7 +1,8 @@
 -- `plain_engine::value_member` meets its contract.
 use mathlib.Core.Path.{_≡_, sym, _∙_}
-use Rattle.plan.specs.Acceptance.{loneRefusal, AcceptedMember}
-use Rattle.plan.proofs.Facts.{lone-facts}
+use Rattle.acceptance.specs.Acceptance.{loneRefusal}
+use Rattle.plan.specs.Ranges.{AcceptedMember}
+use Rattle.acceptance.proofs.Facts.{lone-facts}
 use Rattle.costs.proofs.Answers.{refused, valued, limited}
 use borrow.Author.Needs.{needs}
 use Rattle.plain_engine.proofs.value_member.Statement.{statement}

@@ -1,7 +1,7 @@
 -- `valuation::value_accepted` meets its contract.
 use borrow.Author.Needs.{needs}
 use native.Mathlib.Omega.{arith}
-use Rattle.plan.proofs.Facts.{plan-facts}
+use Rattle.acceptance.proofs.Facts.{plan-facts}
 use Rattle.report.proofs.PrintedLaws.{printed-is}
 use Rattle.valuation.proofs.AnswerLaws.{too-long, written}
 use Rattle.valuation.proofs.value_accepted.Statement.{statement}

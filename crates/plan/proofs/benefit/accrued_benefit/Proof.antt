@@ -3,7 +3,6 @@ use mathlib.Core.Path.{_≡_, ap, _∙_}
 use Rattle.plan.specs.declared.Formula.{Formula}
 use Rattle.plan.specs.Weights.{firstPaid}
 use Rattle.plan.specs.Benefit.{formulaOf}
-use Rattle.plan.proofs.Facts.{plan-facts}
 use Rattle.plan.proofs.BenefitNeeds.{paid-ages}
 use borrow.Author.Needs.{needs}
 use Rattle.plan.proofs.benefit.accrued_benefit.Statement.{statement}
@@ -17,8 +16,8 @@ weights-between-requires : tie.Need-weights-between-requires
 weights-between-requires c κs =
     let s = c .before .before in
     let a = s .args in
-    let ages = paid-ages (a .p) (a .rows .now) (s .pre .0) (a .m) (s .pre .1) (a .k) (s .pre .2) (s .pre .3) (first c) in
-    (plan-facts (a .p) (a .rows .now) (s .pre .0) .table, ages .low, ages .le, ages .high)
+    let ages = paid-ages (s .pre .0) (s .pre .1) (a .k) (s .pre .2) (s .pre .3) (first c) in
+    (s .pre .0 .table, ages .low, ages .le, ages .high)
 
 benefit-requires : tie.Need-benefit-requires
 benefit-requires c κs =

@@ -1,0 +1,187 @@
+-- What is known of a plan and of a member that no rule refuses.
+use mathlib.Core.Path.{_≡_, refl, sym, subst, _∙_}
+use mathlib.Core.Logic.{⊎-elim}
+use mathlib.Core.Bool.{Bool, true, false, cond, _&&_}
+use mathlib.Core.List.{List, [], _∷_, _++_}
+use Prim.Native.Nat.{ℕ, zero, suc, _+_, _≤_, _<_}
+use native.Mathlib.Nat.{eq-or-lt-of-le}
+use native.Mathlib.Omega.{arith}
+use borrow.Author.Tests.{leb-true, ltb-true, eq-eqb, ne-eqb}
+use lib.Dec.{leb, ltb, eqb}
+use Rattle.rates.specs.Rates.{death, withdrawal, disability}
+use Rattle.rates.specs.Table.{row, weight, Sound, Table}
+use Rattle.plan.specs.declared.Plan.{Plan}
+use Rattle.plan.specs.declared.Member.{Member}
+use Rattle.acceptance.specs.Rules.{unless, firstOf, between}
+use Rattle.acceptance.specs.Acceptance.{headRules, rowRules, rowOf, weightBefore, rowsRefusal, planRefusal, fieldRules, benefitRules, memberRefusal, loneRefusal}
+use Rattle.plan.specs.Benefit.{B}
+use Rattle.plan.specs.Ranges.{HeadRanges, PlanRanges, Placed, AcceptedMember}
+use Rattle.plan.proofs.RiseLaws.{never-falls, climbing}
+use Rattle.acceptance.specs.Rising.{Accepted-Never-Falls}
+use Rattle.acceptance.proofs.RuleLaws.{weight-passed}
+
+-- ---- where nothing is refused, each rule is kept
+abbrev pub All-kept : List ℕ → Type 0
+All-kept [] = Unit {0}
+All-kept (a ∷ later) = (a ≡ 0) × All-kept later
+
+passed : (a x : ℕ) → cond (eqb a 0) x a ≡ 0 → (a ≡ 0) × (x ≡ 0)
+passed zero x e = (refl, e)
+passed (suc a) x e = absurd (let h : suc a ≡ 0 = sym (simp (ne-eqb (suc a) 0 (λ e. omega arith))) ∙ e in omega arith)
+
+pub all-kept : (rules : List ℕ) → firstOf rules ≡ 0 → All-kept rules
+all-kept [] e = tt
+all-kept (a ∷ later) e = let h = passed a (firstOf later) e in (h .0, all-kept later (h .1))
+
+-- and where each is kept, nothing is refused
+pub kept-all : (rules : List ℕ) → All-kept rules → firstOf rules ≡ 0
+kept-all [] k = refl
+kept-all (a ∷ rules) k = rw (k .0) (kept-all rules (k .1))
+
+-- two lists of rules, one after the other
+pub refusal-of-both : (rules others : List ℕ) → firstOf (rules ++ others) ≡ cond (eqb (firstOf rules) 0) (firstOf others) (firstOf rules)
+refusal-of-both [] others = refl
+refusal-of-both (zero ∷ rules) others = refusal-of-both rules others
+refusal-of-both (suc a ∷ rules) others = simp (ne-eqb (suc a) 0 (λ e. omega arith))
+
+both-refusals : (rules others : List ℕ) → firstOf (rules ++ others) ≡ 0 → (firstOf rules ≡ 0) × (firstOf others ≡ 0)
+both-refusals rules others e = passed (firstOf rules) (firstOf others) (sym (refusal-of-both rules others) ∙ e)
+
+pub kept : (t : Bool) (n : ℕ) → unless t (suc n) ≡ 0 → t ≡ true
+kept true n e = refl
+kept false n e = absurd (omega arith)
+
+apart : false ≡ true → ⊥
+apart e = let z : _≡_ {A = ℕ} 0 1 = cc in omega arith
+
+both-true : (s t : Bool) → (s && t) ≡ true → (s ≡ true) × (t ≡ true)
+both-true true t e = (refl, e)
+both-true false t e = absurd (apart e)
+
+between-true : (lo hi n : ℕ) → between lo hi n ≡ true → (lo ≤ n) × (n ≤ hi)
+between-true lo hi n e =
+    let h = both-true (leb lo n) (leb n hi) e in
+    (leb-true lo n (h .0), leb-true n hi (h .1))
+
+-- ---- the heading
+unit-most : (t : Bool) (u : ℕ) → u ≤ cond t 100000 500 → u ≤ 100000
+unit-most true u h = h
+unit-most false u h = omega arith
+
+pub head-facts : (p : Plan) → firstOf (headRules p) ≡ 0 → HeadRanges p
+unfolding headRules
+head-facts p e =
+    let k = all-kept (headRules p) e in
+    let unit : p .unit ≤ cond (eqb (p .formula) 1) 100000 500 = leb-true _ _ (kept (leb (p .unit) (cond (eqb (p .formula) 1) 100000 500)) 10 (k .1 .1 .1 .0)) in
+    let average = kept (cond (eqb (p .formula) 3) (between 1 10 (p .average)) (eqb (p .average) 0)) 11 (k .1 .1 .1 .1 .0) in
+    record {
+      interest = leb-true _ _ (kept (leb (p .interest) 2000) 10 (k .0));
+      retire = between-true 50 75 (p .retire) (kept (between 50 75 (p .retire)) 10 (k .1 .0));
+      formula = between-true 1 3 (p .formula) (kept (between 1 3 (p .formula)) 9 (k .1 .1 .0));
+      flat-unit = unit-most (eqb (p .formula) 1) (p .unit) unit;
+      pay-unit = λ other. subst (λ (t : Bool). p .unit ≤ cond t 100000 500) (ne-eqb (p .formula) 1 other) unit;
+      average = λ final. between-true 1 10 (p .average) (subst (λ (t : Bool). cond t (between 1 10 (p .average)) (eqb (p .average) 0) ≡ true) (eq-eqb (p .formula) 3 final) average);
+      method = between-true 1 5 (p .method) (kept (between 1 5 (p .method)) 9 (k .1 .1 .1 .1 .1 .0));
+      assets = leb-true _ _ (kept (leb (p .assets) 99999999999999) 10 (k .1 .1 .1 .1 .1 .1 .0));
+      years = between-true 1 40 (p .years) (kept (between 1 40 (p .years)) 10 (k .1 .1 .1 .1 .1 .1 .1 .0));
+    }
+
+-- ---- the rows
+pub record RowFacts (rows : List (List ℕ)) (k : ℕ) : Type 0 where
+  pub sound : Sound (row rows k)
+  pub least : 1000 ≤ weight rows k
+  pub climbs : weightBefore rows k ≤ weight rows k
+
+row-facts : (rows : List (List ℕ)) (k : ℕ) → firstOf (rowRules k (weightBefore rows k) (rowOf rows k)) ≡ 0 → RowFacts rows k
+unfolding rowRules
+row-facts rows k e =
+    let rules = all-kept (rowRules k (weightBefore rows k) (rowOf rows k)) e in
+    let d = leb (death (row rows k)) 1000000 in
+    let w = leb (withdrawal (row rows k)) 1000000 in
+    let i = leb (disability (row rows k)) 1000000 in
+    let rates = both-true d (w && i) (kept (d && (w && i)) 10 (rules .0)) in
+    let others = both-true w i (rates .1) in
+    let climbs = leb (weightBefore rows k) (weight rows k) in
+    let both = both-true (between 1000 100000 (weight rows k)) climbs (kept (between 1000 100000 (weight rows k) && climbs) 14 (rules .1 .1 .0)) in
+    let scale = between-true 1000 100000 (weight rows k) (both .0) in
+    record {
+      sound = record {
+        dying = leb-true _ _ (rates .0);
+        withdrawing = leb-true _ _ (others .0);
+        disabled = leb-true _ _ (others .1);
+        weight = scale .1;
+      };
+      least = scale .0;
+      climbs = leb-true (weightBefore rows k) (weight rows k) (both .1);
+    }
+
+rows-facts : (rows : List (List ℕ)) (n k : ℕ) → rowsRefusal rows k n ≡ 0 → (j : ℕ) → k ≤ j → j < k + n → RowFacts rows j
+unfolding rowsRefusal
+rows-facts rows zero k e j from to = absurd (omega arith)
+rows-facts rows (suc n) k e j from to =
+    let k-on = all-kept (firstOf (rowRules k (weightBefore rows k) (rowOf rows k)) ∷ rowsRefusal rows (suc k) n ∷ []) e in
+    ⊎-elim
+    (λ (q : k ≡ j). subst (RowFacts rows) q (row-facts rows k (k-on .0)))
+    (λ (l : k < j). rows-facts rows n (suc k) (k-on .1 .0) j l (omega arith))
+    (eq-or-lt-of-le from)
+
+pub plan-facts : (p : Plan) (rows : List (List ℕ)) → planRefusal p rows ≡ 0 → PlanRanges p rows
+unfolding planRefusal
+plan-facts p rows e =
+    let both = all-kept (firstOf (headRules p) ∷ rowsRefusal rows 15 106 ∷ []) e in
+    let each = rows-facts rows 106 15 (both .1 .0) in
+    record {
+      head = head-facts p (both .0);
+      table = λ k low high. each k low (omega arith) .sound;
+      least = λ k low high. each k low (omega arith) .least;
+      climbs = λ k low high. rw (← (weight-passed rows k (omega arith) low)) at (each (k + 1) (omega arith) (omega arith) .climbs);
+    }
+
+-- ---- a member
+-- its fields are judged first, and then its benefit
+module _ (p : Plan) (rows : List (List ℕ)) (before : ℕ) (m : Member) where
+  pub fields-refused : (firstOf (fieldRules p before m) ≡ 0 → ⊥) → memberRefusal p rows before m ≡ firstOf (fieldRules p before m)
+  unfolding memberRefusal
+  fields-refused h = refusal-of-both (fieldRules p before m) (benefitRules p rows m) ∙ simp (ne-eqb (firstOf (fieldRules p before m)) 0 h)
+
+  pub fields-kept : firstOf (fieldRules p before m) ≡ 0 → memberRefusal p rows before m ≡ firstOf (benefitRules p rows m)
+  unfolding memberRefusal
+  fields-kept h = refusal-of-both (fieldRules p before m) (benefitRules p rows m) ∙ simp (eq-eqb (firstOf (fieldRules p before m)) 0 h)
+
+pub placed-facts : (p : Plan) (before : ℕ) (m : Member) → firstOf (fieldRules p before m) ≡ 0 → Placed p m
+unfolding fieldRules
+placed-facts p before m e =
+    let k = all-kept (fieldRules p before m) e in
+    let entry = both-true (leb 15 (m .entry)) (ltb (m .entry) (p .retire)) (kept (leb 15 (m .entry) && ltb (m .entry) (p .retire)) 21 (k .1 .0)) in
+    let age = between-true (m .entry) (p .retire) (m .age) (kept (between (m .entry) (p .retire) (m .age)) 22 (k .1 .1 .0)) in
+    record {
+      grown = leb-true _ _ (entry .0);
+      enters = ltb-true _ _ (entry .1);
+      past-entry = age .0;
+      not-past = age .1;
+      paid = leb-true _ _ (kept (leb (m .salary) 100000000) 23 (k .1 .1 .1 .0));
+    }
+
+pub member-facts : (p : Plan) (rows : List (List ℕ)) (before : ℕ) (m : Member) → planRefusal p rows ≡ 0 → memberRefusal p rows before m ≡ 0 → AcceptedMember p rows m
+unfolding memberRefusal benefitRules
+member-facts p rows before m plan e =
+    let halves = both-refusals (fieldRules p before m) (benefitRules p rows m) e in
+    let k = all-kept (benefitRules p rows m) (halves .1) in
+    record {
+      plan = plan-facts p rows plan;
+      placed = placed-facts p before m (halves .0);
+      capped = leb-true _ _ (kept (leb (B p rows m (p .retire)) 100000000) 24 (k .0));
+    }
+
+-- a lone member, after its plan
+pub lone-facts : (p : Plan) (rows : List (List ℕ)) (m : Member) → loneRefusal p rows m ≡ 0 → AcceptedMember p rows m
+unfolding loneRefusal
+lone-facts p rows m e =
+    let both = all-kept (planRefusal p rows ∷ memberRefusal p rows 0 m ∷ []) e in
+    member-facts p rows 0 m (both .0) (both .1 .0)
+
+-- rule 7.9 for an accepted plan
+pub accepted-never-falls : Accepted-Never-Falls
+accepted-never-falls p rows m accepted placed =
+    let ranges = plan-facts p rows accepted in
+    never-falls p rows m (ranges .head) (climbing ranges) placed

@@ -1,0 +1,3 @@
+-- The laws of the rules, and what accepting shows.
+pub mod RuleLaws
+pub mod Facts

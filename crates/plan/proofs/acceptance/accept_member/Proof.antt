@@ -1,9 +1,0 @@
--- `plan::acceptance::accept_member` meets its contract.
-use mathlib.Core.Path.{ap, _∙_}
-use Rattle.plan.specs.Acceptance.{answer}
-use Rattle.plan.proofs.acceptance.accept_member.Statement.{statement}
-use Rattle.plan.proofs.acceptance.accept_member.Tie as tie
-
-pub accept-member-spec : {M : Type 1} → statement M
-accept-member-spec =
-    tie.close (tie.spec (search) (search) (λ c. c .answer-of .ensures ∙ ap answer (c .before .lone-refusal .ensures)))

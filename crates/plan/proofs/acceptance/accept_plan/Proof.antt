@@ -1,9 +1,0 @@
--- `plan::acceptance::accept_plan` meets its contract.
-use mathlib.Core.Path.{ap, _∙_}
-use Rattle.plan.specs.Acceptance.{answer}
-use Rattle.plan.proofs.acceptance.accept_plan.Statement.{statement}
-use Rattle.plan.proofs.acceptance.accept_plan.Tie as tie
-
-pub accept-plan-spec : {M : Type 1} → statement M
-accept-plan-spec =
-    tie.close (tie.spec (search) (search) (λ c. c .answer-of .ensures ∙ ap answer (c .before .plan-refusal .ensures)))

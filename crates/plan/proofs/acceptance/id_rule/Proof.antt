@@ -1,6 +1,0 @@
--- `plan::acceptance::id_rule` meets its contract.
-use Rattle.plan.proofs.acceptance.id_rule.Statement.{statement}
-use Rattle.plan.proofs.acceptance.id_rule.Tie as tie
-
-pub id-rule-spec : {M : Type 1} → statement M
-id-rule-spec = tie.close (tie.spec (search) (search) (search) (λ c. cc))

@@ -1,6 +1,0 @@
--- `plan::rules::interest_rule` meets its contract.
-use Rattle.plan.proofs.rules.interest_rule.Statement.{statement}
-use Rattle.plan.proofs.rules.interest_rule.Tie as tie
-
-pub interest-rule-spec : {M : Type 1} → statement M
-interest-rule-spec = tie.close (tie.spec (search) (λ c. c .unless .ensures))

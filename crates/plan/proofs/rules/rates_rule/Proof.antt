@@ -1,6 +1,0 @@
--- `plan::rules::rates_rule` meets its contract.
-use Rattle.plan.proofs.rules.rates_rule.Statement.{statement}
-use Rattle.plan.proofs.rules.rates_rule.Tie as tie
-
-pub rates-rule-spec : {M : Type 1} → statement M
-rates-rule-spec = tie.close (tie.spec (search) (search) (search) (λ c. cc))

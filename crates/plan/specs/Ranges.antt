@@ -1,0 +1,42 @@
+-- What the ranges of RULES sections 2, 3 and 4 leave of a plan, its rows and a member: all that the benefit and the
+-- methods ask of them. Accepting shows it (crate `acceptance`).
+use mathlib.Core.Path.{_≡_}
+use mathlib.Core.List.{List}
+use Prim.Native.Nat.{ℕ, _+_, _≤_, _<_}
+use Rattle.annuity.specs.Basis.{weight, Table}
+use Rattle.plan.specs.declared.Plan.{Plan}
+use Rattle.plan.specs.declared.Member.{Member}
+use Rattle.plan.specs.Benefit.{B}
+
+-- a heading that keeps rules 2.2 to 2.9
+pub record HeadRanges (p : Plan) : Type 0 where
+  pub interest : p .interest ≤ 2000
+  pub retire : (50 ≤ p .retire) × (p .retire ≤ 75)
+  pub formula : (1 ≤ p .formula) × (p .formula ≤ 3)
+  pub flat-unit : p .unit ≤ 100000
+  pub pay-unit : (p .formula ≡ 1 → ⊥) → p .unit ≤ 500
+  pub average : p .formula ≡ 3 → (1 ≤ p .average) × (p .average ≤ 10)
+  pub method : (1 ≤ p .method) × (p .method ≤ 5)
+  pub assets : p .assets ≤ 99999999999999
+  pub years : (1 ≤ p .years) × (p .years ≤ 40)
+
+-- and with it a table that keeps rules 3.2 and 3.5
+pub record PlanRanges (p : Plan) (rows : List (List ℕ)) : Type 0 where
+  pub head : HeadRanges p
+  pub table : Table rows
+  pub least : (k : ℕ) → 15 ≤ k → k ≤ 120 → 1000 ≤ weight rows k
+  pub climbs : (k : ℕ) → 15 ≤ k → k < 120 → weight rows k ≤ weight rows (k + 1)
+
+-- a member that keeps rules 4.3 to 4.5
+pub record Placed (p : Plan) (m : Member) : Type 0 where
+  pub grown : 15 ≤ m .entry
+  pub enters : m .entry < p .retire
+  pub past-entry : m .entry ≤ m .age
+  pub not-past : m .age ≤ p .retire
+  pub paid : m .salary ≤ 100000000
+
+-- what is handed on: such a member of such a plan, that keeps rule 7.8 too; its id plays no part in the figures
+pub record AcceptedMember (p : Plan) (rows : List (List ℕ)) (m : Member) : Type 0 where
+  pub plan : PlanRanges p rows
+  pub placed : Placed p m
+  pub capped : B p rows m (p .retire) ≤ 100000000
