@@ -16,13 +16,15 @@ use Rattle.annuity.specs.Factors.{S, C}
 use Rattle.plan.specs.declared.Plan.{Plan}
 use Rattle.plan.specs.declared.Member.{Member}
 use Rattle.plan.proofs.Facts.{member-facts}
+use Rattle.members.specs.Stored.{memberAt, arrayOf}
+use Rattle.members.proofs.ArrayLaws.{array-member}
 use Rattle.casefile.specs.declared.Accepting.the-variants.{Accepted as CaseAccepted, Refused as CaseRefused}
 use Rattle.walk.specs.Outcome.{Outcome, values, refusal, andThen}
 use Rattle.walk.specs.Walk.{Case}
 use Rattle.walk.specs.Kept.{AcceptedCase, nobody}
 use Rattle.casefile.specs.Answers.{acceptingOf, accepting}
-use Rattle.casefile.specs.Stored.{memberAt, arrayOf, idBeforeAt, rowsAfter, membersAfter, AcceptedArrays}
-use Rattle.casefile.proofs.Arrays.{array-member, accepted-case}
+use Rattle.casefile.specs.Stored.{idBeforeAt, rowsAfter, membersAfter, AcceptedArrays}
+use Rattle.casefile.proofs.Arrays.{accepted-case}
 use Rattle.printing.specs.Lines.{pairLine}
 use Rattle.printing.specs.Puts.{Puts}
 use Rattle.printing.proofs.AmountLaws.{whole-most}
