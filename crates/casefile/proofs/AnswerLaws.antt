@@ -12,7 +12,7 @@ use Rattle.casefile.specs.declared.Accepting.{Accepting}
 use Rattle.casefile.specs.declared.Accepting.the-variants.{Accepted, Refused as AcceptingRefused}
 use Rattle.casefile.specs.Answers.{reading, readingOf, acceptingOf, accepting}
 use Rattle.casefile.specs.Stored.{rowsAfter, membersAfter}
-use Rattle.casefile.specs.Stretches.{WalkIs}
+use Rattle.casefile.specs.Stretch.{WalkIs}
 
 -- ---- reading
 module _ (s : List ℕ) (w : Walk) (rows members : List (List ℕ)) (walked : WalkIs false (walkOf false s) w rows members) where

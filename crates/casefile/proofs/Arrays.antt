@@ -1,36 +1,21 @@
 -- What accept_case answers, with its arrays: what one who values the plan starts from.
-use Prim.Native.Nat.{ℕ, zero, suc, _+_, _≤_, _<_}
-use mathlib.Core.Path.{_≡_, refl, ap, _∙_}
-use mathlib.Core.List.{List, [], _∷_, _++_}
-use lib.ListN.{length, getD, drop, replicate, length-replicate, List·getD-append}
-use lib.Seq.{sets, sets-eq}
+use Prim.Native.Nat.{ℕ, zero, suc, _≤_, _<_}
+use mathlib.Core.Path.{_≡_, refl, ap}
+use mathlib.Core.List.{List}
+use lib.ListN.{length}
 use native.Mathlib.Omega.{arith}
 use Rattle.plan.specs.declared.Plan.{Plan}
 use Rattle.plan.specs.declared.Member.{Member}
 use Rattle.walk.specs.Outcome.{Outcome, values, refusal}
-use Rattle.walk.specs.Lines.{mostMembers, memberFrom}
+use Rattle.walk.specs.Lines.{mostMembers}
 use Rattle.walk.specs.Walk.{Case}
-use Rattle.walk.specs.Kept.{nobody, idBefore, AcceptedCase}
+use Rattle.walk.specs.Kept.{idBefore, AcceptedCase}
 use Rattle.walk.proofs.Accepted.{accepted-keeps}
+use Rattle.members.specs.Stored.{arrayOf}
+use Rattle.members.proofs.ArrayLaws.{array-member}
 use Rattle.casefile.specs.declared.Accepting.the-variants.{Accepted}
 use Rattle.casefile.specs.Answers.{acceptingOf, accepting}
-use Rattle.casefile.specs.Stored.{numbersOf, each, arrayOf, memberAt, rowsAfter, membersAfter, idBeforeAt, AcceptedArrays, AcceptedFillsArrays}
-use Rattle.casefile.proofs.MemberLaws.{each-length}
-
--- each member stands in its place
-each-at : (l : List Member) (j : ℕ) → j < length l → getD (each numbersOf l) j [] ≡ numbersOf (getD l j nobody)
-each-at [] j h = absurd (omega arith)
-each-at (m ∷ l) zero h = refl
-each-at (m ∷ l) (suc j) h = each-at l j (omega arith)
-
-pub array-member : (l : List Member) (j : ℕ) → j < length l → length l ≤ mostMembers → memberAt (arrayOf l) j ≡ getD l j nobody
-unfolding arrayOf
-array-member l j h few =
-    let none : List (List ℕ) = replicate mostMembers (replicate 4 0) in
-    let long = each-length numbersOf l in
-    let room : 0 + length (each numbersOf l) ≤ length none = rw (length-replicate {A = List ℕ} mostMembers (replicate 4 0)) (omega (arith, long)) in
-    let whole : sets none 0 (each numbersOf l) ≡ each numbersOf l ++ drop (0 + length (each numbersOf l)) none = sets-eq (each numbersOf l) none 0 room in
-    ap memberFrom (ap (λ (a : List (List ℕ)). getD a j []) whole ∙ List·getD-append (each numbersOf l) (drop (0 + length (each numbersOf l)) none) [] j (omega (arith, long)) ∙ each-at l j h)
+use Rattle.casefile.specs.Stored.{rowsAfter, membersAfter, idBeforeAt, AcceptedArrays, AcceptedFillsArrays}
 
 before-at : (l : List Member) (j : ℕ) → j < length l → length l ≤ mostMembers → idBeforeAt (arrayOf l) j ≡ idBefore l j
 before-at l zero h few = refl

@@ -1,9 +1,4 @@
--- The laws of the reader: lines by their kinds, and the loops as stretches of the walk.
-pub mod LineLaws
-pub mod StretchLaws
-pub mod HeadLaws
-pub mod RowLaws
-pub mod MemberLaws
+-- The laws of the reader: the parts one after the other, the answers, and what the arrays then hold.
 pub mod WalkLaws
 pub mod AnswerLaws
 pub mod Arrays

@@ -13,14 +13,18 @@ use Rattle.walk.specs.Terms.{termForms}
 use Rattle.walk.specs.Step.{Head, table}
 use Rattle.walk.specs.Walk.{caseOf, start, walkFrom, walkOf}
 use Rattle.walk.proofs.Accepted.{plan-kept}
-use Rattle.casefile.specs.declared.Part.{Part}
-use Rattle.casefile.specs.declared.Part.the-variants.{Done, Refused}
-use Rattle.casefile.specs.declared.members.Count.{Count}
-use Rattle.casefile.specs.declared.members.Count.the-variants.{Members, Refused as CountRefused}
+use Rattle.stretches.specs.declared.Part.{Part}
+use Rattle.stretches.specs.declared.Part.the-variants.{Done, Refused}
+use Rattle.stretches.specs.Heads.{headed, tabled}
+use Rattle.heading.specs.Stretch.{HeadKept, HeadDone, HeadIs}
+use Rattle.rows.specs.Stretch.{RowsDone, RowsAre}
+use Rattle.members.specs.declared.Count.{Count}
+use Rattle.members.specs.declared.Count.the-variants.{Members, Refused as CountRefused}
+use Rattle.members.specs.Stretch.{MembersAre}
+use Rattle.members.proofs.MemberLaws.{Fits}
 use Rattle.casefile.specs.declared.Walk.{Walk}
 use Rattle.casefile.specs.declared.Walk.the-variants.{Whole, Refused as WalkRefused}
-use Rattle.casefile.specs.Stretches.{headed, tabled, HeadKept, HeadDone, HeadIs, RowsDone, RowsAre, MembersAre, WalkIs}
-use Rattle.casefile.proofs.MemberLaws.{Fits}
+use Rattle.casefile.specs.Stretch.{WalkIs}
 
 -- ---- after a heading
 module _ (ranges : Bool) (from : ℕ) (s : List ℕ) (r : Part) (array : List (List ℕ)) (rows : RowsAre ranges from s r array) where

@@ -1,35 +1,27 @@
 // The case file of a valuation, RULES sections 1 to 5: reading is for its form (rule 5.1), accepting for its ranges too
-// (rule 5.2). The crate walk says what a case file is; here the walk is done, part by part: heading.rt, rows.rt,
-// members.rt. A part is a stretch of the walk: it starts at a given line on given bytes, and answers the line after it and
-// the place where the next part begins (specs/Stretches.antt). The entries are read_case and accept_case: two words, two
-// functions, two answers. Neither has a `requires`.
-mod heading;
-mod members;
-mod rows;
-
-use crate::heading::head_lines;
-use crate::members::Count;
-use crate::members::member_lines;
-use crate::rows::row_lines;
+// (rule 5.2). The crate walk says what a case file is; here the walk is done, one part after the other: those of the crates
+// heading, rows and members. The entries are read_case and accept_case: two words, two functions, two answers. Neither has a
+// `requires`.
 use acceptance::terms::plan_from;
-use rates::Rows;
 use fields::text::from;
+use heading::head_lines;
+use members::Count;
+use members::member_lines;
 use plan::Members;
 use plan::Plan;
 use plan::Terms;
+use rates::Rows;
+use rows::row_lines;
+use stretches::Part;
 ghost use mathlib.Core.Path.{_≡_};
 ghost use Rattle.casefile.specs.Answers.{readingOf, acceptingOf, accepting};
 ghost use Rattle.casefile.specs.Stored.{rowsAfter, membersAfter};
 ghost use Prim.Native.Nat.{_≤_};
 ghost use Rattle.walk.specs.Step.{table};
 ghost use Rattle.walk.specs.Walk.{walkFrom, walkOf};
-ghost use Rattle.casefile.specs.Stretches.{headed, HeadKept, WalkIs};
-
-// What a part of the walk gives: the line after it and the place where the next part begins; or a refusal's number and line.
-pub enum Part {
-    Done(u64, usize),
-    Refused(u64, u64),
-}
+ghost use Rattle.stretches.specs.Heads.{headed};
+ghost use Rattle.heading.specs.Stretch.{HeadKept};
+ghost use Rattle.casefile.specs.Stretch.{WalkIs};
 
 // What the walk gives: the plan and the count of members, or the first refusal's number and line.
 enum Walk {

@@ -3,14 +3,14 @@
 // on its N and L.
 mod parts;
 
-use rates::Rows;
+use acceptance::lone_refusal;
 use costs::Figures;
 use costs::Valuation;
 use costs::method_of;
 use costs::parts::figures_from;
 use plan::Member;
 use plan::Plan;
-use acceptance::lone_refusal;
+use rates::Rows;
 ghost use mathlib.Core.Path.{_≡_};
 ghost use Rattle.plan.specs.Ranges.{AcceptedMember};
 ghost use Rattle.costs.specs.Valuation.{figures, valuation, Limited};

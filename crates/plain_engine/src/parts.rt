@@ -1,11 +1,11 @@
 // The parts of a member's figures by factors of its own, each worked once, and only those that the method asks for.
-use rates::Rows;
 use costs::parts::Parts;
 use plan::Member;
 use plan::Method;
 use plan::Plan;
 use plan::benefit::accrued_benefit;
 use plan::benefit::weights_between;
+use rates::Rows;
 ghost use mathlib.Core.Path.{_≡_};
 ghost use Prim.Native.Nat.{_-_, _≤_, _<_};
 ghost use lib.ListN.{getD};

@@ -1,11 +1,11 @@
 // The figures of all members and the plan's own: RULES section 11. `work` fills the array of figures and sums them, one
 // after the other; the text is the crate report's. specs/Totals.antt has the totals, specs/Worked.antt what the array
 // holds.
-use rates::Rows;
 use costs::Figures;
 use plan::Member;
 use plan::Members;
 use plan::Plan;
+use rates::Rows;
 use rounding::Signed;
 ghost use mathlib.Core.Path.{_≡_};
 ghost use Prim.Native.Nat.{_≤_, _<_};
@@ -14,7 +14,7 @@ ghost use lib.IntN.{pos, _-ℤ_, _*ℤ_};
 ghost use Rattle.rounding.specs.Nearest.{nearestℤ};
 ghost use Rattle.rounding.specs.Signed.{integer, signed};
 ghost use Rattle.annuity.specs.Factors.{S as Factors·S, C};
-ghost use Rattle.casefile.specs.Stored.{memberAt};
+ghost use Rattle.members.specs.Stored.{memberAt};
 ghost use Rattle.totals.specs.Totals.{totals};
 ghost use Rattle.totals.specs.Worked.{AcceptedMembers, figuresIn, membersIn, sumsIn, SmallIn};
 ghost use Rattle.totals.specs.Worked.{Worked as Worked·Worked};

@@ -11,13 +11,15 @@ use lib.Seq.{sets-eq, take-suc, take-length}
 use Rattle.plan.specs.declared.Plan.{Plan}
 use Rattle.plan.specs.declared.Member.{Member}
 use Rattle.acceptance.proofs.Facts.{member-facts}
+use Rattle.members.specs.Stored.{memberAt, arrayOf}
+use Rattle.members.proofs.ArrayLaws.{array-member}
 use Rattle.walk.specs.Outcome.{Outcome, values, refusal, andThen}
 use Rattle.walk.specs.Walk.{Case}
 use Rattle.walk.specs.Kept.{AcceptedCase, nobody}
 use Rattle.casefile.specs.declared.Accepting.the-variants.{Accepted as CaseAccepted, Refused as CaseRefused}
 use Rattle.casefile.specs.Answers.{acceptingOf, accepting}
-use Rattle.casefile.specs.Stored.{memberAt, arrayOf, idBeforeAt, rowsAfter, membersAfter, AcceptedArrays}
-use Rattle.casefile.proofs.Arrays.{array-member, accepted-case}
+use Rattle.casefile.specs.Stored.{idBeforeAt, rowsAfter, membersAfter, AcceptedArrays}
+use Rattle.casefile.proofs.Arrays.{accepted-case}
 use Rattle.totals.specs.Worked.{membersIn, AcceptedMembers}
 use Rattle.printing.specs.Puts.{Puts}
 use Rattle.report.specs.Lines.{printed, refusalLine}

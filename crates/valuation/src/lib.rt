@@ -2,7 +2,9 @@
 // their totals the crate totals'; here is what fits the buffer, and what is answered. The entries are value_case,
 // refusal_line and print_case, and those of the layers below, which are passed on: read_case, accept_case, accept_plan,
 // accept_member, value_member. None has a `requires`.
-use rates::Rows;
+pub use acceptance::Acceptance;
+pub use acceptance::accept_member;
+pub use acceptance::accept_plan;
 pub use casefile::Accepting;
 pub use casefile::Reading;
 pub use casefile::accept_case;
@@ -13,9 +15,7 @@ pub use plain_engine::value_member;
 pub use plan::Member;
 use plan::Members;
 pub use plan::Plan;
-pub use acceptance::Acceptance;
-pub use acceptance::accept_member;
-pub use acceptance::accept_plan;
+use rates::Rows;
 use report::write_lines;
 use report::write_refusal;
 use totals::supplemental_of;

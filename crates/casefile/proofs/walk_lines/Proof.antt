@@ -1,6 +1,6 @@
 -- `casefile::walk_lines` meets its contract.
 use borrow.Author.Needs.{needs}
-use Rattle.casefile.specs.Stretches.{WalkIs}
+use Rattle.casefile.specs.Stretch.{WalkIs}
 use Rattle.casefile.proofs.WalkLaws.{too-large, head-refused, head-is, head-low, walk-is}
 use Rattle.casefile.proofs.walk_lines.Statement.{statement}
 use Rattle.casefile.proofs.walk_lines.Tie as tie

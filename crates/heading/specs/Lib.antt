@@ -1,0 +1,3 @@
+-- What the heading's lines give, and the loop over them.
+pub mod Words
+pub mod Stretch

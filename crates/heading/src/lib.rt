@@ -1,0 +1,145 @@
+// The heading, RULES section 2: the plan's own terms.
+use acceptance::terms::term_rule;
+use fields::lines::Line;
+use fields::lines::Read;
+use fields::lines::keyed_line;
+use fields::lines::unread;
+use fields::text::from;
+use fields::text::same;
+use fields::text::seek;
+use plan::Terms;
+use stretches::Part;
+ghost use mathlib.Core.Path.{_≡_};
+ghost use Prim.Native.Nat.{ℕ};
+ghost use Rattle.fields.specs.declared.lines.Line.the-variants.{Good};
+ghost use Rattle.fields.specs.Split.{uptoOf};
+ghost use Rattle.fields.specs.Values.{Held, lineOf};
+ghost use Rattle.acceptance.specs.Acceptance.{termRule};
+ghost use Rattle.walk.specs.Outcome.{settled};
+ghost use Rattle.walk.specs.Terms.{formulaOf, methodOf, termForm};
+ghost use Rattle.heading.specs.Words.{coded, wordOf};
+ghost use Rattle.heading.specs.Stretch.{HeadIs};
+
+// Rules 2.4 and 5.4: the code of the formula, 0 for another word.
+fn formula_code(line: &[u8]) -> u64
+    ensures { λ r. ⌜ coded r ≡ formulaOf (now (line .entry)) ⌝ }
+{
+    if same(line, b"formula=flat") {
+        return 1;
+    }
+    if same(line, b"formula=career") {
+        return 2;
+    }
+    if same(line, b"formula=final") {
+        return 3;
+    }
+    0
+}
+
+// Rules 2.7 and 5.4: the code of the method, 0 for another word.
+fn method_code(line: &[u8]) -> u64
+    ensures { λ r. ⌜ coded r ≡ methodOf (now (line .entry)) ⌝ }
+{
+    if same(line, b"method=AB") {
+        return 1;
+    }
+    if same(line, b"method=BD") {
+        return 2;
+    }
+    if same(line, b"method=BP") {
+        return 3;
+    }
+    if same(line, b"method=CD") {
+        return 4;
+    }
+    if same(line, b"method=CP") {
+        return 5;
+    }
+    0
+}
+
+fn word_code(line: &[u8], method: bool) -> u64
+    ensures { λ r. ⌜ coded r ≡ wordOf method (now (line .entry)) ⌝ }
+{
+    if method {
+        method_code(line)
+    } else {
+        formula_code(line)
+    }
+}
+
+// The line of the formula or of the method. Where it is one, its code is written to the front of `values`.
+fn word_line(s: &[u8], method: bool, values: &mut Read) -> Line
+    ensures { λ r. ⌜ r ≡ lineOf (wordOf method) (now (s .entry)) ⌝ }
+    ensures { λ r. ⌜ ((e : ℕ) → r ≡ Good e → Held (wordOf method (uptoOf 10 (now (s .entry)))) 0 (now (values .exit))) ⌝ }
+{
+    let e = seek(s, 10);
+    if s.len() <= e {
+        return Line::Cut;
+    }
+    let code = word_code(&s[..e], method);
+    if code == 0 {
+        return Line::Wrong;
+    }
+    *values = [code, 0, 0, 0, 0];
+    Line::Good(e)
+}
+
+// The line of the term with k before it. Where its form is right its value is written to the front of `values`.
+fn term_line(s: &[u8], k: usize, values: &mut Read) -> Line
+    ensures { λ r. ⌜ r ≡ lineOf (termForm k) (now (s .entry)) ⌝ }
+    ensures { λ r. ⌜ ((e : ℕ) → r ≡ Good e → Held (termForm k (uptoOf 10 (now (s .entry)))) 0 (now (values .exit))) ⌝ }
+{
+    match k {
+        0 => keyed_line(s, b"interest=", 0, false, values),
+        1 => keyed_line(s, b"retire=", 0, false, values),
+        2 => word_line(s, false, values),
+        3 => keyed_line(s, b"unit=", 0, false, values),
+        4 => keyed_line(s, b"average=", 0, false, values),
+        5 => word_line(s, true, values),
+        6 => keyed_line(s, b"assets=", 0, true, values),
+        7 => keyed_line(s, b"years=", 0, false, values),
+        _ => unread(s),
+    }
+}
+
+// The range rule of a term where the ranges are settled: a number, 0 for none.
+fn term_refusal(ranges: bool, k: usize, terms: &Terms, v: u64) -> u64
+    ensures { λ r. ⌜ r ≡ settled ranges (termRule k (now (terms .entry)) v) ⌝ }
+{
+    if ranges { term_rule(k, terms, v) } else { 0 }
+}
+
+// Reads the terms, and settles their ranges too where that is asked for. After a refusal `terms` is left open.
+pub fn head_lines(s: &[u8], ranges: bool, terms: &mut Terms) -> Part
+    ensures { λ r. ⌜ HeadIs ranges (now (s .entry)) r (now (terms .exit)) ⌝ }
+{
+    // Nothing that the caller left there is taken for a term.
+    *terms = [0u64; 8];
+    let mut values = [0u64; 5];
+    let mut line: u64 = 1;
+    let mut at = 0;
+    let mut k = 0;
+    while k < 8 {
+        match term_line(from(s, at), k, &mut values) {
+            Line::Good(e) => {
+                let v = values[0];
+                let refusal = term_refusal(ranges, k, terms, v);
+                if refusal != 0 {
+                    return Part::Refused(refusal, line);
+                }
+                terms[k] = v;
+                at += e + 1;
+            }
+            Line::Wrong => {
+                return Part::Refused(10, line);
+            }
+            Line::Cut => {
+                return Part::Refused(2, line);
+            }
+        }
+        line += 1;
+        k += 1;
+    }
+    Part::Done(line, at)
+}

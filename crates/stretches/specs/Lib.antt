@@ -1,0 +1,2 @@
+-- What stands before a part of the walk.
+pub mod Heads
