@@ -15,7 +15,7 @@ use Rattle.plan.specs.declared.Member.{Member}
 use Rattle.acceptance.specs.Rules.{unless, firstOf, between}
 use Rattle.acceptance.specs.Acceptance.{headRules, rowRules, rowOf, weightBefore, rowsRefusal, planRefusal, fieldRules, benefitRules, memberRefusal, loneRefusal}
 use Rattle.plan.specs.Benefit.{B}
-use Rattle.plan.specs.Ranges.{HeadRanges, PlanRanges, Placed, AcceptedMember}
+use Rattle.plan.specs.Ranges.{HeadRanges, PlanRanges, InRange, AcceptedMember}
 use Rattle.plan.proofs.RiseLaws.{never-falls, climbing}
 use Rattle.acceptance.specs.Rising.{Accepted-Never-Falls}
 use Rattle.acceptance.proofs.RuleLaws.{weight-passed}
@@ -148,7 +148,7 @@ module _ (p : Plan) (rows : List (List ℕ)) (before : ℕ) (m : Member) where
   unfolding memberRefusal
   fields-kept h = refusal-of-both (fieldRules p before m) (benefitRules p rows m) ∙ simp (eq-eqb (firstOf (fieldRules p before m)) 0 h)
 
-pub placed-facts : (p : Plan) (before : ℕ) (m : Member) → firstOf (fieldRules p before m) ≡ 0 → Placed p m
+pub placed-facts : (p : Plan) (before : ℕ) (m : Member) → firstOf (fieldRules p before m) ≡ 0 → InRange p m
 unfolding fieldRules
 placed-facts p before m e =
     let k = all-kept (fieldRules p before m) e in

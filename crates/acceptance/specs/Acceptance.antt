@@ -90,13 +90,13 @@ planFrom t =
     }
 
 -- each by its rule
-abbrev pub judged : List TermRule → (before terms : List ℕ) → List ℕ
-judged [] before terms = []
-judged (rule ∷ rules) before [] = []
-judged (rule ∷ rules) before (v ∷ terms) = rule before v ∷ judged rules (before ++ v ∷ []) terms
+abbrev pub ruled : List TermRule → (before terms : List ℕ) → List ℕ
+ruled [] before terms = []
+ruled (rule ∷ rules) before [] = []
+ruled (rule ∷ rules) before (v ∷ terms) = rule before v ∷ ruled rules (before ++ v ∷ []) terms
 
 unfoldable pub headRules : Plan → List ℕ
-headRules p = judged termRules [] (termsOf p)
+headRules p = ruled termRules [] (termsOf p)
 
 -- ---- a row, RULES section 3: its age, the weight of the age before (0 where there is none), and its four numbers
 -- rules 3.2, 3.4 and 3.5: each rate, death at 120, and the weight
@@ -149,8 +149,8 @@ memberRefusal p rows before m = firstOf (fieldRules p before m ++ benefitRules p
 
 -- ---- the answers
 -- rule 5.3, a refusal number as an answer: the line of plain values is 0
-unfoldable pub answer : ℕ → Acceptance
-answer number = cond (eqb number 0) Accepted (Refused number 0)
+unfoldable pub acceptanceOf : ℕ → Acceptance
+acceptanceOf number = cond (eqb number 0) Accepted (Refused number 0)
 
 -- rules 5.3 and 5.5, a lone member: the plan's refusal comes first, and no id stands before its own
 unfoldable pub loneRefusal : Plan → List (List ℕ) → Member → ℕ

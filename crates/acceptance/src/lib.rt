@@ -29,7 +29,7 @@ ghost use mathlib.Core.Bool.{_&&_};
 ghost use lib.Dec.{leb, ltb};
 ghost use Rattle.acceptance.specs.Rules.{firstOf};
 ghost use Rattle.acceptance.specs.Rules.{unless as Rules·unless, between as Rules·between};
-ghost use Rattle.acceptance.specs.Acceptance.{headRules, rowsRefusal, planRefusal, fieldRules, memberRefusal, loneRefusal, answer};
+ghost use Rattle.acceptance.specs.Acceptance.{headRules, rowsRefusal, planRefusal, fieldRules, memberRefusal, loneRefusal, acceptanceOf};
 
 // The heading, rules 2.2 to 2.9.
 pub fn head_refusal(p: Plan) -> u64
@@ -112,7 +112,7 @@ pub enum Acceptance {
 }
 
 fn answer_of(number: u64) -> Acceptance
-    ensures { λ r. ⌜ r ≡ answer number ⌝ }
+    ensures { λ r. ⌜ r ≡ acceptanceOf number ⌝ }
 {
     if number == 0 {
         return Acceptance::Accepted;
@@ -122,7 +122,7 @@ fn answer_of(number: u64) -> Acceptance
 
 // Accepts a plan with its rows.
 pub fn accept_plan(p: Plan, rows: [[u32; 4]; 106]) -> Acceptance
-    ensures { λ r. ⌜ r ≡ answer (planRefusal p rows) ⌝ }
+    ensures { λ r. ⌜ r ≡ acceptanceOf (planRefusal p rows) ⌝ }
 {
     answer_of(plan_refusal(p, rows))
 }
@@ -140,7 +140,7 @@ pub fn lone_refusal(p: Plan, rows: [[u32; 4]; 106], m: Member) -> u64
 
 // Accepts a lone member of a plan.
 pub fn accept_member(p: Plan, rows: [[u32; 4]; 106], m: Member) -> Acceptance
-    ensures { λ r. ⌜ r ≡ answer (loneRefusal p rows m) ⌝ }
+    ensures { λ r. ⌜ r ≡ acceptanceOf (loneRefusal p rows m) ⌝ }
 {
     answer_of(lone_refusal(p, rows, m))
 }

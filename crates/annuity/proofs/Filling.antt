@@ -14,7 +14,7 @@ use Rattle.rates.specs.Rates.{stays}
 use Rattle.rates.specs.Table.{staying}
 use Rattle.annuity.specs.Basis.{Basis, Fair, basis}
 use Rattle.annuity.specs.Factors.{S, step, pension, G}
-use Rattle.annuity.specs.Filled.{Filled, amountOf, factor}
+use Rattle.annuity.specs.Filled.{Filled, paidOf, factor}
 use Rattle.annuity.proofs.Carried.{carried-at, carried-before, carried-cong}
 use Rattle.annuity.proofs.Annuities.{annuity-most}
 
@@ -45,7 +45,7 @@ filled-first F top v low high e =
 -- ---- the factor
 -- a year's amount and step, by the row of the year's age
 pub year-by-row : (rows : List (List ℕ)) (r i : ℕ) (amount : Amount) (k f : ℕ) {row : List ℕ} → row ≡ getD rows (k - 15) []
-    → amountOf (getD row 3 0) amount + nearest (f * stays row r k) (100 * (10000 + i)) ≡ amountOf (basis rows r i .W k) amount + step (basis rows r i) k f
+    → paidOf (getD row 3 0) amount + nearest (f * stays row r k) (100 * (10000 + i)) ≡ paidOf (basis rows r i .W k) amount + step (basis rows r i) k f
 unfolding staying step
 year-by-row rows r i amount k f e = rw e refl
 
@@ -55,12 +55,12 @@ module _ (b : Basis) (amount : Amount) (top start : ℕ) where
   factor-top = carried-at _ _ top
 
   pub factor-before : (k : ℕ) → k < top
-      → factor b amount top start k ≡ amountOf (b .W k) amount + step b k (factor b amount top start (k + 1))
+      → factor b amount top start k ≡ paidOf (b .W k) amount + step b k (factor b amount top start (k + 1))
   unfolding factor
   factor-before k h = carried-before _ _ k top h
 
-amount-le : (weight : ℕ) (amount : Amount) → weight ≤ 100000 → amountOf weight amount ≤ 100000 * S
-unfolding amountOf
+amount-le : (weight : ℕ) (amount : Amount) → weight ≤ 100000 → paidOf weight amount ≤ 100000 * S
+unfolding paidOf
 amount-le weight Nothing h = omega arith
 amount-le weight One h = omega arith
 amount-le weight Weight h = mul-le-mul-right S h
@@ -70,13 +70,13 @@ pub factor-most : (b : Basis) → Fair b → (amount : Amount) (top start k : �
     → ((j : ℕ) → 15 ≤ j → j ≤ 120 → b .W j ≤ 100000) → factor b amount top start k ≤ 107 * (100000 * S)
 unfolding factor
 factor-most b fair amount top start k high low st weights =
-    let m = annuity-most b fair (λ j. amountOf (b .W j) amount) (100000 * S) start 1 k (top - k) (omega arith)
+    let m = annuity-most b fair (λ j. paidOf (b .W j) amount) (100000 * S) start 1 k (top - k) (omega arith)
     (λ j from to. amount-le (b .W j) amount (weights j (omega arith) (omega arith))) in
     omega (arith, m, mul-le-mul-right {m = 1 + (top - k)} {n = 107} (100000 * S) (omega arith))
 
 -- ---- A, T and Z are cases of it by computing, and G by a law
 pub deferred-filled : (b : Basis) {a : List ℕ} → Filled (factor b Nothing (b .r) (pension b)) (b .r) 15 a → Filled (G b) (b .r) 15 a
-unfolding factor amountOf G
+unfolding factor paidOf G
 deferred-filled b held =
     let same : (k : ℕ) → factor b Nothing (b .r) (pension b) k ≡ G b k = λ k. carried-cong _ _ (pension b) (λ j f. zero-add (step b j f)) k (b .r - k) in
     record { size = held .size; upto = λ k low lt. held .upto k low lt ∙ same k; above = held .above }

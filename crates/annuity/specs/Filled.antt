@@ -16,11 +16,11 @@ pub record Filled (F : ℕ → ℕ) (top low : ℕ) (a : List ℕ) : Type 0 wher
   pub above : (k : ℕ) → top < k → k ≤ 120 → getD a (k - 15) 0 ≡ 0
 
 -- what is paid each year (rules 8.4 to 8.7): nothing for G, S for A and T, W(k) × S for Z
-unfoldable pub amountOf : (weight : ℕ) → Amount → ℕ
-amountOf weight Nothing = 0
-amountOf weight One = S
-amountOf weight Weight = weight * S
+unfoldable pub paidOf : (weight : ℕ) → Amount → ℕ
+paidOf weight Nothing = 0
+paidOf weight One = S
+paidOf weight Weight = weight * S
 
 -- the factor at age k that ends at the age `top` with `start`: A, G, T and Z are cases of it
 unfoldable pub factor : Basis → Amount → ℕ → ℕ → ℕ → ℕ
-factor b amount top start k = carried (λ j f. amountOf (b .W j) amount + step b j f) start k (top - k)
+factor b amount top start k = carried (λ j f. paidOf (b .W j) amount + step b j f) start k (top - k)

@@ -12,7 +12,7 @@ ghost use Rattle.rates.specs.Table.{Sound, Table};
 ghost use Rattle.annuity.specs.Basis.{basis};
 ghost use Rattle.annuity.specs.Factors.{A as Factors·A, pension as Factors·pension, G, T, Z, C};
 ghost use Rattle.annuity.specs.Factors.{S as Factors·S};
-ghost use Rattle.annuity.specs.Filled.{Filled, amountOf, factor};
+ghost use Rattle.annuity.specs.Filled.{Filled, paidOf, factor};
 
 // Rule 8.1: one, in billionths.
 pub const S: u64 = 1_000_000_000;
@@ -34,7 +34,7 @@ pub enum Amount {
 
 fn amount_of(row: [u32; 4], amount: Amount) -> u64
     requires { ⌜ Sound row ⌝ }
-    ensures { λ m. ⌜ m ≡ amountOf (getD row 3 0) amount ⌝ }
+    ensures { λ m. ⌜ m ≡ paidOf (getD row 3 0) amount ⌝ }
 {
     match amount {
         Amount::Nothing => 0,

@@ -5,7 +5,7 @@ ghost use mathlib.Core.Path.{_≡_};
 ghost use Prim.Native.Nat.{_*_, _^_, _<_};
 ghost use lib.IntN.{pos, _*ℤ_};
 ghost use Rattle.rounding.specs.Nearest.{nearest, nearestℤ};
-ghost use Rattle.rounding.specs.Signed.{integer, signed};
+ghost use Rattle.rounding.specs.Signed.{integerOf, signed};
 
 // n / d, rounded.
 #[no_mangle]
@@ -44,8 +44,8 @@ pub extern "C" fn bench_rounding_signed_mul_div_nearest(
     below: &mut bool,
 ) -> u64
     requires { ⌜ (0 < d) × (nearest (size * b) d < 2 ^ 64) ⌝ }
-    ensures { λ r. ⌜ r ≡ signed (nearestℤ (integer (record { negative = negative; size = size }) *ℤ pos b) d) .size ⌝ }
-    ensures { λ _. ⌜ now (below .exit) ≡ signed (nearestℤ (integer (record { negative = negative; size = size }) *ℤ pos b) d) .negative ⌝ }
+    ensures { λ r. ⌜ r ≡ signed (nearestℤ (integerOf (record { negative = negative; size = size }) *ℤ pos b) d) .size ⌝ }
+    ensures { λ _. ⌜ now (below .exit) ≡ signed (nearestℤ (integerOf (record { negative = negative; size = size }) *ℤ pos b) d) .negative ⌝ }
 {
     let r = rounding::signed_mul_div_nearest(Signed { negative, size }, b, d);
     *below = r.negative;

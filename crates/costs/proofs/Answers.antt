@@ -10,7 +10,7 @@ use Rattle.plan.specs.Ranges.{AcceptedMember}
 use Rattle.acceptance.proofs.Facts.{member-facts}
 use Rattle.costs.specs.declared.Figures.{Figures}
 use Rattle.costs.specs.declared.Valuation.the-variants.{Valued, Refused}
-use Rattle.costs.specs.Valuation.{methodOf, caseOf, figuresAt, figures, valuation, Limited, Demand-3-Forms, Demand-3-Limits, Demand-3-Sharp-Limits}
+use Rattle.costs.specs.Valuation.{methodOf, settingOf, figuresAt, figures, valuation, Limited, Demand-3-Forms, Demand-3-Limits, Demand-3-Sharp-Limits}
 use Rattle.costs.proofs.EqualForms.{equal-forms}
 use Rattle.costs.proofs.Limits.{limits, sharp-limits}
 use Rattle.costs.proofs.Needs.{sound}
@@ -27,17 +27,17 @@ module _ (p : Plan) (rows : List (List ℕ)) (m : Member) where
   own-figures : AcceptedMember p rows m → Limited p rows m (Valued (figures p rows m))
   unfolding figures figuresAt
   own-figures accepted =
-      limits (caseOf p rows m) (sound p rows m accepted) (methodOf (p .method)) (m .age) (accepted .placed .past-entry) (accepted .placed .not-past)
+      limits (settingOf p rows m) (sound p rows m accepted) (methodOf (p .method)) (m .age) (accepted .placed .past-entry) (accepted .placed .not-past)
 
   pub limited : {f : Figures} → AcceptedMember p rows m → f ≡ figures p rows m → Limited p rows m (Valued f)
   limited accepted e = subst (λ (f : Figures). Limited p rows m (Valued f)) (sym e) (own-figures accepted)
 
 -- ---- demand 3, of every accepted member
 pub demand-3-forms : Demand-3-Forms
-demand-3-forms p rows before m ok = equal-forms (caseOf p rows m) (sound p rows m (member-facts p rows before m (ok .plan) (ok .member)))
+demand-3-forms p rows before m ok = equal-forms (settingOf p rows m) (sound p rows m (member-facts p rows before m (ok .plan) (ok .member)))
 
 pub demand-3-limits : Demand-3-Limits
-demand-3-limits p rows before m ok = limits (caseOf p rows m) (sound p rows m (member-facts p rows before m (ok .plan) (ok .member)))
+demand-3-limits p rows before m ok = limits (settingOf p rows m) (sound p rows m (member-facts p rows before m (ok .plan) (ok .member)))
 
 pub demand-3-sharp-limits : Demand-3-Sharp-Limits
-demand-3-sharp-limits p rows before m ok = sharp-limits (caseOf p rows m) (sound p rows m (member-facts p rows before m (ok .plan) (ok .member)))
+demand-3-sharp-limits p rows before m ok = sharp-limits (settingOf p rows m) (sound p rows m (member-facts p rows before m (ok .plan) (ok .member)))

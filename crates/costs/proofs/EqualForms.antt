@@ -12,13 +12,13 @@ use Rattle.annuity.specs.Factors.{step*, v}
 use Rattle.annuity.proofs.Equations.{v-at, v-below}
 use Rattle.annuity.proofs.Sizes.{v-proper}
 use Rattle.plan.specs.declared.Method.{Method}
-use Rattle.costs.specs.Case.{Case, Sound}
+use Rattle.costs.specs.Setting.{Setting, SoundSetting}
 use Rattle.costs.specs.Costs.{r, PV*, N*, L*, costs-from, future}
 use Rattle.costs.specs.Demand3.{Equal-Forms}
 use Rattle.costs.proofs.RollForward.{PV*-step, L*-proper, N*-proper, last, roll-forward}
 
-module _ (c : Case) (ok : Sound c) (m : Method) where
-  open Case c using (basis, y)
+module _ (c : Setting) (ok : SoundSetting c) (m : Method) where
+  open Setting c using (basis, y)
 
   rate-proper : (k : ℕ) → Proper (basis .P k over (100 * (10000 + basis .i)))
   rate-proper k = over-proper (basis .P k) (omega arith)

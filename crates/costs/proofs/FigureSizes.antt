@@ -22,7 +22,7 @@ use Rattle.plan.specs.Benefit.{B}
 use Rattle.plan.specs.Ranges.{PlanRanges, AcceptedMember}
 use Rattle.costs.specs.declared.Figures.{Figures}
 use Rattle.costs.specs.Costs.{PV, cost, N, L}
-use Rattle.costs.specs.Valuation.{methodOf, planBasis, caseOf, figuresAt, figures}
+use Rattle.costs.specs.Valuation.{methodOf, planBasis, settingOf, figuresAt, figures}
 use Rattle.costs.specs.Parts.{earned, divisor}
 use Rattle.costs.proofs.Limits.{B-most}
 use Rattle.costs.proofs.Needs.{worth-most, facts, sound, G-small, pay-least}
@@ -79,31 +79,31 @@ module _ (p : Plan) (rows : List (List ℕ)) (m : Member) (accepted : AcceptedMe
   enters : y < r
   enters = accepted .placed .enters
 
-  value-small : (k : ℕ) → PV (caseOf p rows m) k ≤ 7100000000
+  value-small : (k : ℕ) → PV (settingOf p rows m) k ≤ 7100000000
   unfolding PV
   value-small k = omega (arith, worth-most (B p rows m (p .retire)) (G b k) (G-small p rows m accepted k), accepted .capped)
 
   -- a share of V is no more
-  past-small : (method : Method) (k : ℕ) → m .entry ≤ k → k ≤ p .retire → nearest (PV (caseOf p rows m) k * earned (caseOf p rows m) k method) (divisor (caseOf p rows m) method) ≤ 7100000000
+  past-small : (method : Method) (k : ℕ) → m .entry ≤ k → k ≤ p .retire → nearest (PV (settingOf p rows m) k * earned (settingOf p rows m) k method) (divisor (settingOf p rows m) method) ≤ 7100000000
   past-small method k from to =
-      le-trans (nearest-shrinks (PV (caseOf p rows m) k) _ _ (divided p rows m accepted method) (earned-most p rows m accepted method k from to)) (value-small k)
+      le-trans (nearest-shrinks (PV (settingOf p rows m) k) _ _ (divided p rows m accepted method) (earned-most p rows m accepted method k from to)) (value-small k)
 
-  liability-small : (method : Method) (k : ℕ) → m .entry ≤ k → k ≤ p .retire → L (caseOf p rows m) method k ≤ 7100000000
+  liability-small : (method : Method) (k : ℕ) → m .entry ≤ k → k ≤ p .retire → L (settingOf p rows m) method k ≤ 7100000000
   unfolding L
   liability-small AB k from to =
-      omega (arith, worth-most (B p rows m k) (G b k) (G-small p rows m accepted k), B-most (caseOf p rows m) (sound p rows m accepted) k from to)
+      omega (arith, worth-most (B p rows m k) (G b k) (G-small p rows m accepted k), B-most (settingOf p rows m) (sound p rows m accepted) k from to)
   liability-small BD k from to = past-small BD k from to
   liability-small BP k from to = past-small BP k from to
   liability-small CD k from to = past-small CD k from to
   liability-small CP k from to = past-small CP k from to
 
-  cost-small : (method : Method) (k : ℕ) → m .entry ≤ k → k < p .retire → cost (caseOf p rows m) method k ≤ 7100000050
+  cost-small : (method : Method) (k : ℕ) → m .entry ≤ k → k < p .retire → cost (settingOf p rows m) method k ≤ 7100000050
   unfolding cost PV
   cost-small AB k from to =
-      omega (arith, worth-most (B p rows m (k + 1) - B p rows m k) (G b k) (G-small p rows m accepted k), B-most (caseOf p rows m) (sound p rows m accepted) (k + 1) (omega arith) (omega arith))
-  cost-small BD k from to = omega (arith, nearest-le (PV (caseOf p rows m) k) (r - y) (divided p rows m accepted BD), value-small k)
+      omega (arith, worth-most (B p rows m (k + 1) - B p rows m k) (G b k) (G-small p rows m accepted k), B-most (settingOf p rows m) (sound p rows m accepted) (k + 1) (omega arith) (omega arith))
+  cost-small BD k from to = omega (arith, nearest-le (PV (settingOf p rows m) k) (r - y) (divided p rows m accepted BD), value-small k)
   cost-small BP k from to =
-      omega (arith, nearest-shrinks (PV (caseOf p rows m) k) _ _ (divided p rows m accepted BP) (adds-most p rows m accepted BP k from to), value-small k)
+      omega (arith, nearest-shrinks (PV (settingOf p rows m) k) _ _ (divided p rows m accepted BP) (adds-most p rows m accepted BP k from to), value-small k)
   cost-small CD k from to =
       let top = B p rows m r in
       let some = divided p rows m accepted CD in

@@ -16,7 +16,7 @@ use Rattle.annuity.proofs.Sizes.{G*-most, T-least, T-longer, T*-proper, T*-posi
 use Rattle.annuity.proofs.Accuracy.{G-accuracy, T-accuracy, Z-accuracy}
 use Rattle.plan.specs.declared.Method.{Method}
 use Rattle.plan.specs.declared.Method.the-variants.{AB, BD, BP, CD, CP}
-use Rattle.costs.specs.Case.{Case, Sound}
+use Rattle.costs.specs.Setting.{Setting, SoundSetting}
 use Rattle.plan.specs.Weights.{summed}
 use Rattle.plan.proofs.WeightLaws.{summed-split}
 use Rattle.costs.specs.Costs.{r, W, M, PV, PV*, cost, cost*, N, N*, L, L*}
@@ -86,9 +86,9 @@ climb F k (suc n) rises =
     let next : k + suc n ≡ k + n + 1 = omega arith in
     rw next (omega (arith, climb F k n (λ j from to. rises j from (omega arith)), rises (k + n) (omega arith) (omega arith)))
 
-module _ (c : Case) (sound : Sound c) where
-  open Case c using (basis, B, y)
-  open Sound sound using (fair, enters, weighty, climbs, capped, rises)
+module _ (c : Setting) (sound : SoundSetting c) where
+  open Setting c using (basis, B, y)
+  open SoundSetting sound using (fair, enters, weighty, climbs, capped, rises)
 
   -- no benefit is above a later one, and no weight below the first
   pub B-rises : {k j : ℕ} → y ≤ k → k ≤ j → j ≤ r c → B k ≤ B j
@@ -223,7 +223,7 @@ module _ (c : Case) (sound : Sound c) where
       (Z-share (B (r c)))
 
 -- ---- the statements
-N-limit-most : (c : Case) → Sound c → (m : Method) (k : ℕ) → N-limit c m k ≼ N-most c m k
+N-limit-most : (c : Setting) → SoundSetting c → (m : Method) (k : ℕ) → N-limit c m k ≼ N-most c m k
 unfolding N-limit N-most _over_ whole _⊕_ _⊗_
 N-limit-most c sound AB k = omega (arith, sound .capped)
 N-limit-most c sound BD k = omega (arith, sound .capped)
@@ -231,7 +231,7 @@ N-limit-most c sound BP k = omega (arith, sound .capped)
 N-limit-most c sound CD k = omega (arith, sound .capped)
 N-limit-most c sound CP k = omega (arith, W-some c sound, mul-le-mul-right (W c k * W c (c .y)) (sound .capped))
 
-L-limit-most : (c : Case) → Sound c → (m : Method) → L-limit c m ≼ 15 over 1
+L-limit-most : (c : Setting) → SoundSetting c → (m : Method) → L-limit c m ≼ 15 over 1
 unfolding L-limit _over_ whole _⊕_ _⊗_
 L-limit-most c sound AB = omega (arith, sound .capped)
 L-limit-most c sound BD = omega (arith, sound .capped)

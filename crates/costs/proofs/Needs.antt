@@ -13,8 +13,8 @@ use Rattle.plan.specs.declared.Plan.{Plan}
 use Rattle.plan.specs.declared.Member.{Member}
 use Rattle.plan.specs.Ranges.{PlanRanges, AcceptedMember}
 use Rattle.plan.proofs.RiseLaws.{never-falls, climbing}
-use Rattle.costs.specs.Case.{Sound}
-use Rattle.costs.specs.Valuation.{planBasis, caseOf}
+use Rattle.costs.specs.Setting.{SoundSetting}
+use Rattle.costs.specs.Valuation.{planBasis, settingOf}
 
 -- a product with a factor of 71 S at most, rounded, is 71 times the benefit at most
 pub worth-most : (benefit deferred : ℕ) → deferred ≤ 71 * S → nearest (benefit * deferred) S ≤ benefit * 71
@@ -25,7 +25,7 @@ module _ (p : Plan) (rows : List (List ℕ)) (m : Member) (accepted : AcceptedMe
   pub facts : PlanRanges p rows
   facts = accepted .plan
 
-  pub sound : Sound (caseOf p rows m)
+  pub sound : SoundSetting (settingOf p rows m)
   sound =
       record {
         fair = basis-fair rows (p .retire) (p .interest);

@@ -17,17 +17,17 @@ use Rattle.plan.specs.declared.Member.{Member}
 use Rattle.plan.specs.declared.Method.{Method}
 use Rattle.plan.specs.declared.Method.the-variants.{AB, BD, BP, CD, CP}
 use Rattle.plan.specs.Ranges.{AcceptedMember}
-use Rattle.costs.specs.Case.{Case}
+use Rattle.costs.specs.Setting.{Setting}
 use Rattle.costs.specs.Costs.{PV, cost, N, L}
-use Rattle.costs.specs.Valuation.{planBasis, caseOf, figuresAt}
+use Rattle.costs.specs.Valuation.{planBasis, settingOf, figuresAt}
 use Rattle.costs.specs.Parts.{earned, adds, divisor, partsAt, costFactor, liabilityFactor, figuresFrom, From-Parts}
 use Rattle.costs.proofs.RollForward.{M-positive}
 use Rattle.costs.proofs.Limits.{B-most, M-split, W-most}
 use Rattle.costs.proofs.Needs.{facts, sound, G-small, pay-least}
 
 module _ (p : Plan) (rows : List (List ℕ)) (m : Member) (accepted : AcceptedMember p rows m) where
-  abbrev c : Case
-  c = caseOf p rows m
+  abbrev c : Setting
+  c = settingOf p rows m
 
   fair : Fair (planBasis p rows)
   fair = basis-fair rows (p .retire) (p .interest)
@@ -94,8 +94,8 @@ from-parts p rows m accepted method k from to =
         divisor = divided p rows m accepted method;
       };
       figures = λ i. record {
-        benefit = caseOf p rows m .B (p .retire);
-        value = PV (caseOf p rows m) k;
+        benefit = settingOf p rows m .B (p .retire);
+        value = PV (settingOf p rows m) k;
         cost = costs p rows m accepted method k (ltb k (p .retire)) i;
         liability = liabilities p rows m accepted method k i;
       };

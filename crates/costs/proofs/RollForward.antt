@@ -15,7 +15,7 @@ use Rattle.annuity.proofs.Chains.{G*-chain, T*-chain, Z*-chain}
 use Rattle.annuity.proofs.Sizes.{G*-proper, T*-proper, Z*-proper, v-proper, T*-positive, Z*-positive}
 use Rattle.plan.specs.declared.Method.{Method}
 use Rattle.plan.specs.declared.Method.the-variants.{AB, BD, BP, CD, CP}
-use Rattle.costs.specs.Case.{Case, Sound}
+use Rattle.costs.specs.Setting.{Setting, SoundSetting}
 use Rattle.plan.specs.Weights.{summed}
 use Rattle.plan.proofs.WeightLaws.{summed-more}
 use Rattle.costs.specs.Costs.{r, W, M, PV*, cost*, N*, L*}
@@ -46,8 +46,8 @@ each P h CP = h .4
 pub S-positive : 0 < S
 S-positive = omega arith
 
-module _ (c : Case) where
-  open Case c using (basis, B, y)
+module _ (c : Setting) where
+  open Setting c using (basis, B, y)
 
   pub PV*-proper : (k : ℕ) → Proper (PV* c k)
   unfolding PV*
@@ -102,8 +102,8 @@ module _ (c : Case) where
   unfolding PV*
   since-entry k x z a b = rw (G*-chain basis y k a) (simp AC)
 
-  module _ (ok : Sound c) where
-    open Sound ok using (enters, weighty, rises)
+  module _ (ok : SoundSetting c) where
+    open SoundSetting ok using (enters, weighty, rises)
 
     -- ---- what the methods divide by
     pub years-positive : 0 < r c - y

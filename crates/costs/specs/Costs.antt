@@ -9,10 +9,10 @@ use Rattle.annuity.specs.Factors.{S, G, G*, T, T*, Z, Z*, v}
 use Rattle.plan.specs.Weights.{summed}
 use Rattle.plan.specs.declared.Method.{Method}
 use Rattle.plan.specs.declared.Method.the-variants.{AB, BD, BP, CD, CP}
-use Rattle.costs.specs.Case.{Case}
+use Rattle.costs.specs.Setting.{Setting}
 
-module _ (c : Case) where
-  open Case c using (basis, B, y)
+module _ (c : Setting) where
+  open Setting c using (basis, B, y)
 
   abbrev pub r : ℕ
   r = basis .r

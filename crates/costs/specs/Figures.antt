@@ -18,9 +18,9 @@ use Rattle.plan.specs.declared.Method.the-variants.{AB, BD, BP, CD, CP}
 use Rattle.plan.specs.Weights.{summed}
 use Rattle.plan.specs.Benefit.{formulaOf, pay, pays, exactBenefit, B}
 use Rattle.acceptance.specs.Acceptance.{loneRefusal, planRefusal, headRules, rowsRefusal, rowRules, memberRefusal, fieldRules, benefitRules}
-use Rattle.costs.specs.Case.{Case}
+use Rattle.costs.specs.Setting.{Setting}
 use Rattle.costs.specs.Costs.{W, PV, cost, N, L}
-use Rattle.costs.specs.Valuation.{caseOf}
+use Rattle.costs.specs.Valuation.{settingOf}
 
 -- rule 14.2: the plan and the member of the short case
 abbrev pub short-plan : Plan
@@ -30,8 +30,8 @@ short-plan =
 abbrev pub short-member : Member
 short-member = record { id = 7; entry = 63; age = 64; salary = 0 }
 
-abbrev pub short-case : Case
-short-case = caseOf short-plan short short-member
+abbrev pub short-case : Setting
+short-case = settingOf short-plan short short-member
 
 -- rules 14.6 and 14.7, a benefit from pay, by a formula and an average
 abbrev pay-plan : ℕ → ℕ → Plan

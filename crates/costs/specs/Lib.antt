@@ -1,4 +1,4 @@
-pub mod Case
+pub mod Setting
 pub mod Costs
 pub mod Demand3
 pub mod Valuation

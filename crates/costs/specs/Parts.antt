@@ -14,13 +14,13 @@ use Rattle.plan.specs.declared.Method.the-variants.{AB, BD, BP, CD, CP}
 use Rattle.plan.specs.Ranges.{AcceptedMember}
 use Rattle.costs.specs.declared.Figures.{Figures}
 use Rattle.costs.specs.declared.parts.Parts.{Parts}
-use Rattle.costs.specs.Case.{Case}
+use Rattle.costs.specs.Setting.{Setting}
 use Rattle.costs.specs.Costs.{r, W, M}
-use Rattle.costs.specs.Valuation.{caseOf, figuresAt}
+use Rattle.costs.specs.Valuation.{settingOf, figuresAt}
 
 -- ---- the parts of a case
-module _ (c : Case) where
-  open Case c using (basis, y)
+module _ (c : Setting) where
+  open Setting c using (basis, y)
 
   -- rules 9.2 to 9.6: what N and L are divided by
   abbrev pub divisor : Method → ℕ
@@ -30,8 +30,8 @@ module _ (c : Case) where
   divisor CD = T basis y (r c)
   divisor CP = Z basis y (r c)
 
-module _ (c : Case) (k : ℕ) where
-  open Case c using (basis, B, y)
+module _ (c : Setting) (k : ℕ) where
+  open Setting c using (basis, B, y)
 
   -- rules 9.2 to 9.6: what L counts, from entry up to k, in benefit, years, weights or one of the two annuities
   abbrev pub earned : Method → ℕ
@@ -86,7 +86,7 @@ module _ (q : Parts) where
       record { benefit = q .benefit; value = valueFrom; cost = nearest (costFactor m * q .added) (q .divisor); liability = nearest (liabilityFactor m * q .earned) (q .divisor) }
 
 -- parts so small that each product and each figure fits a word, by any method: rule 7.8, sizes of factors, and no share above 1
-pub record Fits (q : Parts) : Type 0 where
+pub record SmallParts (q : Parts) : Type 0 where
   pub benefit : q .benefit ≤ 100000000
   pub deferred : q .deferred ≤ 71 * S
   pub entered : q .entered ≤ 71 * S
@@ -96,8 +96,8 @@ pub record Fits (q : Parts) : Type 0 where
 
 -- ---- the law: of every accepted member, by each of the five methods and at each age of its own (rule 9.9), the parts fit, and what they give are the figures
 pub record Gives (p : Plan) (rows : List (List ℕ)) (m : Member) (method : Method) (k : ℕ) : Type 0 where
-  pub fits : Fits (partsAt (caseOf p rows m) k method)
-  pub figures : figuresFrom (partsAt (caseOf p rows m) k method) method ≡ figuresAt p rows m method k
+  pub fits : SmallParts (partsAt (settingOf p rows m) k method)
+  pub figures : figuresFrom (partsAt (settingOf p rows m) k method) method ≡ figuresAt p rows m method k
 
 abbrev pub From-Parts : Type 0
 From-Parts =

@@ -16,7 +16,7 @@ use Rattle.acceptance.specs.Acceptance.{planRefusal, memberRefusal, loneRefusal
 use Rattle.costs.specs.declared.Figures.{Figures}
 use Rattle.costs.specs.declared.Valuation.{Valuation}
 use Rattle.costs.specs.declared.Valuation.the-variants.{Valued, Refused}
-use Rattle.costs.specs.Case.{Case}
+use Rattle.costs.specs.Setting.{Setting}
 use Rattle.costs.specs.Costs.{PV, N, N*, L, L*}
 use Rattle.costs.specs.Demand3.{N-most, FormsAgree, WithinDemand, WithinLimits}
 
@@ -30,13 +30,13 @@ planBasis p rows = basis rows (p .retire) (p .interest)
 
 module _ (p : Plan) (rows : List (List ℕ)) (m : Member) where
   -- what the figures rest on
-  abbrev pub caseOf : Case
-  caseOf = record { basis = planBasis p rows; B = B p rows m; y = m .entry }
+  abbrev pub settingOf : Setting
+  settingOf = record { basis = planBasis p rows; B = B p rows m; y = m .entry }
 
   -- rule 9.9, the figures at age k by any method: B(r), V(k), N and L
   unfoldable pub figuresAt : Method → ℕ → Figures
   figuresAt method k =
-      record { benefit = B p rows m (p .retire); value = PV caseOf k; cost = N caseOf method k; liability = L caseOf method k }
+      record { benefit = B p rows m (p .retire); value = PV settingOf k; cost = N settingOf method k; liability = L settingOf method k }
 
   -- rule 9.11, the figures that are printed: at the member's own age, by the plan's own method
   unfoldable pub figures : Figures
@@ -49,8 +49,8 @@ module _ (p : Plan) (rows : List (List ℕ)) (m : Member) where
   -- rule 10.9, of an answer: N and L lie within 15 cents of their exact fractions, N of CP within 15 × W(x) / W(y)
   abbrev pub Limited : Valuation → Type 0
   Limited (Valued f) =
-      Within (N-most caseOf (methodOf (p .method)) (m .age)) (f .cost) (N* caseOf (methodOf (p .method)) (m .age))
-      × Within (15 over 1) (f .liability) (L* caseOf (methodOf (p .method)) (m .age))
+      Within (N-most settingOf (methodOf (p .method)) (m .age)) (f .cost) (N* settingOf (methodOf (p .method)) (m .age))
+      × Within (15 over 1) (f .liability) (L* settingOf (methodOf (p .method)) (m .age))
   Limited (Refused number line) = Unit {0}
 
 -- ---- demand 3, of every member that the rules accept: whatever the id before it, each age of its own, each of the five methods
@@ -59,10 +59,10 @@ pub record Accepted (p : Plan) (rows : List (List ℕ)) (before : ℕ) (m : Memb
   pub member : memberRefusal p rows before m ≡ 0
 
 -- what holds of a case, a method and an age, holds of every accepted member
-abbrev pub Of-Every-Accepted : (Case → Method → ℕ → Type 0) → Type 0
+abbrev pub Of-Every-Accepted : (Setting → Method → ℕ → Type 0) → Type 0
 Of-Every-Accepted P =
     (p : Plan) (rows : List (List ℕ)) (before : ℕ) (m : Member) → Accepted p rows before m
-    → (method : Method) (k : ℕ) → m .entry ≤ k → k ≤ p .retire → P (caseOf p rows m) method k
+    → (method : Method) (k : ℕ) → m .entry ≤ k → k ≤ p .retire → P (settingOf p rows m) method k
 
 -- rule 10.8: the two forms of the liability are equal fractions
 abbrev pub Demand-3-Forms : Type 0

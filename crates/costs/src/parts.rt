@@ -6,7 +6,7 @@ ghost use mathlib.Core.Path.{_≡_};
 ghost use Prim.Native.Nat.{_*_, _≤_, _<_};
 ghost use Rattle.rounding.specs.Nearest.{nearest};
 ghost use Rattle.annuity.specs.Factors.{S};
-ghost use Rattle.costs.specs.Parts.{Fits, valueFrom, costFactor, liabilityFactor, figuresFrom};
+ghost use Rattle.costs.specs.Parts.{SmallParts, valueFrom, costFactor, liabilityFactor, figuresFrom};
 
 // B(r), G(x) and G(y); then, by the method's own measure, what is earned up to x, what the year from x on adds, and what
 // both are divided by.
@@ -21,7 +21,7 @@ pub struct Parts {
 
 // Rules 9.1 to 9.8: the figures that the parts give.
 pub fn figures_from(q: Parts, method: Method) -> Figures
-    requires { ⌜ Fits q ⌝ }
+    requires { ⌜ SmallParts q ⌝ }
     ensures { λ f. ⌜ f ≡ figuresFrom q method ⌝ }
 {
     let value = worth(q.benefit, q.deferred);
@@ -37,7 +37,7 @@ pub fn figures_from(q: Parts, method: Method) -> Figures
 
 // What N has beside what is added. Both products fit a word: a benefit is 10^8 at most, and a factor 71 S.
 fn cost_factor(q: Parts, method: Method, value: u64) -> u64
-    requires { ⌜ Fits q × (value ≡ valueFrom q) ⌝ }
+    requires { ⌜ SmallParts q × (value ≡ valueFrom q) ⌝ }
     ensures { λ r. ⌜ r ≡ costFactor q method ⌝ }
 {
     match method {

@@ -6,7 +6,7 @@ use native.Mathlib.Omega.{arith}
 use Rattle.division.specs.declared.words.Wide.{Wide}
 use Rattle.division.specs.declared.Taken.{Taken}
 use Rattle.division.specs.Words.{value}
-use Rattle.division.specs.Division.{Reciprocal, Short, whole}
+use Rattle.division.specs.Division.{Reciprocal, Short, undivided}
 
 -- k is the whole part of l * v / w: k times d is at most l
 le : (w l v d k r : ℕ) → 0 < w → v * d < w → k * w + r ≡ l * v → k * d ≤ l
@@ -52,6 +52,6 @@ unfolding Short value
 high-short w d h l = omega arith
 
 -- where one word is left
-pub one-word : (d : ℕ) (t : Taken) → t .left .high ≡ 0 → whole d t ≡ t .quotient * d + t .left .low
-unfolding whole value
+pub one-word : (d : ℕ) (t : Taken) → t .left .high ≡ 0 → undivided d t ≡ t .quotient * d + t .left .low
+unfolding undivided value
 one-word d t e = omega arith

@@ -20,10 +20,10 @@ pub record Reciprocal (d v : ℕ) : Type 0 where
   pub near : 2 ^ 64 ≤ v * d + d
 
 -- the number that is divided, from what was taken and what is left
-unfoldable pub whole : ℕ → Taken → ℕ
-whole d t = t .quotient * d + value (t .left)
+unfoldable pub undivided : ℕ → Taken → ℕ
+undivided d t = t .quotient * d + value (t .left)
 
 -- a step changes nothing in that, and leaves less where two words were left
 pub record Step (d : ℕ) (t r : Taken) : Type 0 where
-  pub same : whole d r ≡ whole d t
+  pub same : undivided d r ≡ undivided d t
   pub less : 0 < t .left .high → value (r .left) < value (t .left)

@@ -7,7 +7,7 @@ use words::Wide;
 ghost use mathlib.Core.Path.{_≡_};
 ghost use Prim.Native.Nat.{_+_, _*_, _<_};
 ghost use Rattle.division.specs.Words.{value};
-ghost use Rattle.division.specs.Division.{DivisionOf, Reciprocal, Short, Step, whole};
+ghost use Rattle.division.specs.Division.{DivisionOf, Reciprocal, Short, Step, undivided};
 
 // A quotient, and what is left.
 pub struct Division {
@@ -60,7 +60,7 @@ fn by_reciprocal(w: Wide, d: u64) -> Division
 // One step, or two.
 fn start(w: Wide, d: u64, v: u64) -> Taken
     requires { ⌜ Reciprocal d v × (Short (value w) d) ⌝ }
-    ensures { λ r. ⌜ whole d r ≡ value w ⌝ }
+    ensures { λ r. ⌜ undivided d r ≡ value w ⌝ }
 {
     let t = Taken {
         quotient: 0,
@@ -75,8 +75,8 @@ fn start(w: Wide, d: u64, v: u64) -> Taken
 
 // Steps until one word is left, which it mostly is from the start.
 fn finish(mut t: Taken, d: u64, v: u64) -> Division
-    requires { ⌜ Reciprocal d v × (Short (whole d t) d) ⌝ }
-    ensures { λ s. ⌜ DivisionOf (whole d t) d s ⌝ }
+    requires { ⌜ Reciprocal d v × (Short (undivided d t) d) ⌝ }
+    ensures { λ s. ⌜ DivisionOf (undivided d t) d s ⌝ }
 {
     while t.left.high > 0 {
         t = step(t, d, v);
@@ -94,7 +94,7 @@ fn reciprocal(d: u64) -> u64
 
 // Takes d off what is left, as often as the reciprocal says.
 fn step(t: Taken, d: u64, v: u64) -> Taken
-    requires { ⌜ Reciprocal d v × (Short (whole d t) d) ⌝ }
+    requires { ⌜ Reciprocal d v × (Short (undivided d t) d) ⌝ }
     ensures { λ r. ⌜ Step d t r ⌝ }
 {
     let w = t.left;

@@ -11,7 +11,7 @@ use borrow.Author.Tests.{eqb-true}
 use Rattle.fields.specs.declared.numbers.Field.{Field}
 use Rattle.fields.specs.declared.numbers.Field.the-variants.{Is, NotField}
 use Rattle.fields.specs.Split.{seekOf, hasOf, uptoOf, pastOf}
-use Rattle.fields.specs.Numbers.{Number, value, malformed, isDigit, digits, inCents, digitsOf, wholeOf, amountOf}
+use Rattle.fields.specs.Numbers.{Number, value, malformed, isDigit, allDigits, inCents, digitsOf, wholeOf, amountOf}
 use Rattle.fields.specs.Values.{placed, fieldOf}
 use Rattle.fields.proofs.SplitLaws.{off, after, here, cut}
 use Rattle.fields.proofs.FieldLaws.{digits-off, lacks-digits}
@@ -86,7 +86,7 @@ module _ (i : ℕ) (s : List ℕ) {r : Field} {d p : ℕ} (read : r ≡ fieldOf 
           record { text = rw (first, second) e; end = ap (λ (v : List ℕ). getD v 2 0) parts; size = omega arith }
 
   -- no two digits and byte 10 after the point
-  wrong : (Two → digits (uptoOf 10 w) ≡ false) → NotField ≡ fieldOf amountOf 10 i s
+  wrong : (Two → allDigits (uptoOf 10 w) ≡ false) → NotField ≡ fieldOf amountOf 10 i s
   unfolding digitsOf
   wrong bad = after-point-is (hasOf 10 w) refl (eqb (length (uptoOf 10 w)) 2) refl
     where
@@ -121,7 +121,7 @@ module _ (i : ℕ) (s : List ℕ) {r : Field} {d p : ℕ} (read : r ≡ fieldOf 
   amount-good room first second end =
       let a = getD s (p + 1) 0 in
       let b = getD s (p + 2) 0 in
-      let text : digits (a ∷ b ∷ []) ≡ true = simp (first, second) in
+      let text : allDigits (a ∷ b ∷ []) ≡ true = simp (first, second) in
       let parts : w ≡ a ∷ b ∷ 10 ∷ drop (p + 4) s = three (p + 1) (p + 2) (p + 3) (p + 4) s (omega arith) (omega arith) (omega arith) (omega arith) end in
       let f = after 10 (a ∷ b ∷ []) (10 ∷ drop (p + 4) s) (lacks-digits 10 (a ∷ b ∷ []) (omega arith) text) in
       let g = here 10 (drop (p + 4) s) in

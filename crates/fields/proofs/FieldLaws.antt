@@ -13,7 +13,7 @@ use native.Mathlib.Nat.{add-zero, eq-or-lt-of-le, pow-succ', pow-le-pow-right, m
 use borrow.Author.Tests.{eq-eqb, ne-eqb, le-leb, lt-leb, leb-true, lt-ltb, le-ltb}
 use Rattle.fields.specs.declared.numbers.Field.the-variants.{Is, NotField}
 use Rattle.fields.specs.Split.{seekOf, hasOf, uptoOf}
-use Rattle.fields.specs.Numbers.{Number, value, malformed, isDigit, digits, number, digitsOf, wholeForm, wholeOf}
+use Rattle.fields.specs.Numbers.{Number, value, malformed, isDigit, allDigits, number, digitsOf, wholeForm, wholeOf}
 use Rattle.fields.specs.Values.{placed, fieldOf}
 use Rattle.fields.proofs.SplitLaws.{and-true-left, and-true-right, and-false, lacks, After, after, here, has-lacks}
 
@@ -27,12 +27,12 @@ digit-low c e = leb-true _ _ (and-true-left (leb 48 c) (leb c 57) e)
 pub digit-high : (c : ℕ) → isDigit c ≡ true → c ≤ 57
 digit-high c e = leb-true _ _ (and-true-right (leb 48 c) (leb c 57) e)
 
-pub digits-both : (t u : List ℕ) → digits t ≡ true → digits u ≡ true → digits (t ++ u) ≡ true
+pub digits-both : (t u : List ℕ) → allDigits t ≡ true → allDigits u ≡ true → allDigits (t ++ u) ≡ true
 digits-both [] u e f = f
 digits-both (b ∷ t) u e f =
-    simp (and-true-left (isDigit b) (digits t) e) (digits-both t u (and-true-right (isDigit b) (digits t) e) f)
+    simp (and-true-left (isDigit b) (allDigits t) e) (digits-both t u (and-true-right (isDigit b) (allDigits t) e) f)
 
-pub digits-off : (t : List ℕ) (c : ℕ) (u : List ℕ) → isDigit c ≡ false → digits (t ++ c ∷ u) ≡ false
+pub digits-off : (t : List ℕ) (c : ℕ) (u : List ℕ) → isDigit c ≡ false → allDigits (t ++ c ∷ u) ≡ false
 digits-off [] c u e = rw e
 digits-off (b ∷ t) c u e = rw (digits-off t c u e) (and-false (isDigit b))
 
@@ -41,22 +41,22 @@ number-more [] m c = refl
 number-more (b ∷ t) m c = number-more t (m * 10 + (b - 48)) c
 
 -- bytes 10, 44 and 46 are no digits
-pub lacks-digits : (b : ℕ) (t : List ℕ) → b < 48 → digits t ≡ true → lacks b t ≡ true
+pub lacks-digits : (b : ℕ) (t : List ℕ) → b < 48 → allDigits t ≡ true → lacks b t ≡ true
 lacks-digits b [] h e = refl
 lacks-digits b (x ∷ t) h e =
-    let low = digit-low x (and-true-left (isDigit x) (digits t) e) in
-    simp (ne-eqb x b (λ is. omega arith)) (lacks-digits b t h (and-true-right (isDigit x) (digits t) e))
+    let low = digit-low x (and-true-left (isDigit x) (allDigits t) e) in
+    simp (ne-eqb x b (λ is. omega arith)) (lacks-digits b t h (and-true-right (isDigit x) (allDigits t) e))
 
 -- digits write a number of as many digits
-number-small : (s : List ℕ) (n : ℕ) → digits s ≡ true → number n s < (n + 1) * 10 ^ length s
+number-small : (s : List ℕ) (n : ℕ) → allDigits s ≡ true → number n s < (n + 1) * 10 ^ length s
 number-small [] n e = omega arith
 number-small (b ∷ s) n e =
-    let top = digit-high b (and-true-left (isDigit b) (digits s) e) in
+    let top = digit-high b (and-true-left (isDigit b) (allDigits s) e) in
     let fits : n * 10 + (b - 48) + 1 ≤ (n + 1) * 10 = omega arith in
     rw (pow-succ' 10 (length s), ← mul-assoc (n + 1) 10 (10 ^ length s))
-    (lt-of-lt-of-le (number-small s (n * 10 + (b - 48)) (and-true-right (isDigit b) (digits s) e)) (mul-le-mul-right (10 ^ length s) fits))
+    (lt-of-lt-of-le (number-small s (n * 10 + (b - 48)) (and-true-right (isDigit b) (allDigits s) e)) (mul-le-mul-right (10 ^ length s) fits))
 
-pub digits-small : (t : List ℕ) {n : ℕ} → digits t ≡ true → length t ≤ 12 → number 0 t ≡ n → n < 1000000000000
+pub digits-small : (t : List ℕ) {n : ℕ} → allDigits t ≡ true → length t ≤ 12 → number 0 t ≡ n → n < 1000000000000
 digits-small t all few writes =
     let top : 10 ^ length t ≤ 10 ^ 12 = pow-le-pow-right (omega arith) few in
     omega (arith, number-small t 0 all, writes)
@@ -64,7 +64,7 @@ digits-small t all few writes =
 -- ---- from place i up to place j stand at most 12 digits, which write n
 pub record Run (s : List ℕ) (i j n : ℕ) : Type 0 where
   pub text : List ℕ
-  pub all : digits text ≡ true
+  pub all : allDigits text ≡ true
   pub writes : number 0 text ≡ n
   pub split : drop i s ≡ text ++ drop j s
   pub long : j ≡ i + length text

@@ -11,7 +11,7 @@ use borrow.Author.Tests.{ne-eqb, ltb-true, ltb-false, leb-true}
 use Rattle.fields.specs.declared.numbers.Field.{Field}
 use Rattle.fields.specs.declared.numbers.Field.the-variants.{Is, NotField}
 use Rattle.fields.specs.Split.{seekOf, hasOf, uptoOf, pastOf}
-use Rattle.fields.specs.Numbers.{Number, value, malformed, digits, number, digitsOf, wholeForm, wholeOf}
+use Rattle.fields.specs.Numbers.{Number, value, malformed, allDigits, number, digitsOf, wholeForm, wholeOf}
 use Rattle.fields.specs.Values.{before, placed, fieldOf}
 use Rattle.fields.proofs.SplitLaws.{off, and-true-left, and-true-right, lacks, lacks-both, lacks-has, after, here, cut}
 use Rattle.fields.proofs.FieldLaws.{lacks-digits, digits-small}
@@ -80,15 +80,15 @@ module _ (b : ℕ) (other : b ≡ 10 → ⊥) (t : List ℕ) where
 
 -- ---- a field that was read, or not
 record Whole (t : List ℕ) (v : ℕ) : Type 0 where
-  all : digits t ≡ true
+  all : allDigits t ≡ true
   few : length t ≤ 12
   writes : number 0 t ≡ v
 
 whole-is : (t : List ℕ) (v : ℕ) → wholeOf t ≡ value v → Whole t v
 unfolding wholeOf digitsOf
-whole-is t v e = pick (wholeForm t) refl (digits t) refl e
+whole-is t v e = pick (wholeForm t) refl (allDigits t) refl e
   where
-    pick : (f : Bool) → wholeForm t ≡ f → (d : Bool) → digits t ≡ d → cond f (cond d (value (number 0 t)) malformed) malformed ≡ value v → Whole t v
+    pick : (f : Bool) → wholeForm t ≡ f → (d : Bool) → allDigits t ≡ d → cond f (cond d (value (number 0 t)) malformed) malformed ≡ value v → Whole t v
     pick true form true is e =
         let sizes = and-true-left (leb 1 (length t) && leb (length t) 12) (not (ltb 1 (length t) && eqb (getD t 0 0) 48)) form in
         record { all = is; few = leb-true _ _ (and-true-right (leb 1 (length t)) (leb (length t) 12) sizes); writes = cc }

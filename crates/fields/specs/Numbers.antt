@@ -15,9 +15,9 @@ pub data Number : Type 0 where
 abbrev pub isDigit : ℕ → Bool
 isDigit b = leb 48 b && leb b 57
 
-abbrev pub digits : List ℕ → Bool
-digits [] = true
-digits (b ∷ s) = isDigit b && digits s
+abbrev pub allDigits : List ℕ → Bool
+allDigits [] = true
+allDigits (b ∷ s) = isDigit b && allDigits s
 
 -- the number that the digits s write, after digits that wrote n
 abbrev pub number : ℕ → List ℕ → ℕ
@@ -26,7 +26,7 @@ number n (b ∷ s) = number (n * 10 + (b - 48)) s
 
 -- all digits: their number
 unfoldable pub digitsOf : List ℕ → Number
-digitsOf s = cond (digits s) (value (number 0 s)) malformed
+digitsOf s = cond (allDigits s) (value (number 0 s)) malformed
 
 -- rule 1.3, a whole number: 1 to 12 digits, and no 0 before others
 abbrev pub wholeForm : List ℕ → Bool

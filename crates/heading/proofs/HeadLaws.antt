@@ -16,7 +16,7 @@ use Rattle.fields.proofs.AnswerLaws.{is-good, is-wrong, is-cut, Answers}
 use Rattle.acceptance.specs.Acceptance.{termRule, unitRule, averageRule}
 use Rattle.walk.specs.Outcome.{refusal, settled}
 use Rattle.walk.specs.Terms.{termForms, termForm, termRefusal}
-use Rattle.walk.specs.Step.{heading, right, withTerm, afterTerm, termLine, lineOf}
+use Rattle.walk.specs.Step.{heading, right, withTerm, afterTerm, termLine, verdictOf}
 use Rattle.walk.specs.Walk.{start, walkFrom}
 use Rattle.walk.specs.Kept.{Each}
 use Rattle.walk.proofs.StepLaws.{each-next}
@@ -68,8 +68,8 @@ module _ {ranges : Bool} {s terms : List ℕ} {line at k : ℕ} (t : TermsRead r
   pub terms-cut : r ≡ Cut → walkFrom ranges 1 start s ≡ refusal 2 line
   terms-cut is = due ∙ line-cut ranges line (heading (headed (take k terms))) (drop at s) (is-cut (termForm k) (drop at s) (read .0) is)
 
-  form : {x : Values} (ahead : List ℕ) → termForm k (uptoOf 10 (drop at s)) ≡ x → lineOf (heading (headed (take k terms))) (uptoOf 10 (drop at s)) ahead ≡ termLine (headed (take k terms)) x
-  unfolding lineOf
+  form : {x : Values} (ahead : List ℕ) → termForm k (uptoOf 10 (drop at s)) ≡ x → verdictOf (heading (headed (take k terms))) (uptoOf 10 (drop at s)) ahead ≡ termLine (headed (take k terms)) x
+  unfolding verdictOf
   form ahead is = rw (count, is)
 
   pub terms-wrong : r ≡ Wrong → walkFrom ranges 1 start s ≡ refusal 10 line
@@ -78,7 +78,7 @@ module _ {ranges : Bool} {s terms : List ℕ} {line at k : ℕ} (t : TermsRead r
       due ∙ line-wrong ranges line (heading (headed (take k terms))) (drop at s) (w .0) (form (uptoOf 10 (pastOf 10 (drop at s))) (w .1))
 
   module _ {e x : ℕ} (is : r ≡ Good e) (rule : x ≡ settled ranges (termRule k terms (getD values 0 0))) where
-    good : lineOf (heading (headed (take k terms))) (uptoOf 10 (drop at s)) (uptoOf 10 (pastOf 10 (drop at s))) ≡ right (termRefusal (take k terms) (getD values 0 0)) (afterTerm (withTerm (headed (take k terms)) (getD values 0 0)))
+    good : verdictOf (heading (headed (take k terms))) (uptoOf 10 (drop at s)) (uptoOf 10 (pastOf 10 (drop at s))) ≡ right (termRefusal (take k terms) (getD values 0 0)) (afterTerm (withTerm (headed (take k terms)) (getD values 0 0)))
     good = form (uptoOf 10 (pastOf 10 (drop at s))) (read .1 e is .is) ∙ rw (getD-take 1 values 0 0 (omega arith))
 
     judged : x ≡ settled ranges (termRefusal (take k terms) (getD values 0 0))

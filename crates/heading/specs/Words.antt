@@ -3,11 +3,11 @@ use Prim.Native.Nat.{ℕ, zero, suc}
 use mathlib.Core.List.{List, [], _∷_}
 use mathlib.Core.Bool.{Bool, cond}
 use Rattle.fields.specs.Values.{Values, found, misread}
-use Rattle.walk.specs.Terms.{formulaOf, methodOf}
+use Rattle.walk.specs.Terms.{formulaWord, methodWord}
 
 abbrev pub coded : ℕ → Values
 coded zero = misread
 coded (suc code) = found (suc code ∷ [])
 
 abbrev pub wordOf : (method : Bool) → List ℕ → Values
-wordOf method line = cond method (methodOf line) (formulaOf line)
+wordOf method line = cond method (methodWord line) (formulaWord line)

@@ -16,13 +16,13 @@ ghost use Rattle.fields.specs.Split.{uptoOf};
 ghost use Rattle.fields.specs.Values.{Held, lineOf};
 ghost use Rattle.acceptance.specs.Acceptance.{termRule};
 ghost use Rattle.walk.specs.Outcome.{settled};
-ghost use Rattle.walk.specs.Terms.{formulaOf, methodOf, termForm};
+ghost use Rattle.walk.specs.Terms.{formulaWord, methodWord, termForm};
 ghost use Rattle.heading.specs.Words.{coded, wordOf};
 ghost use Rattle.heading.specs.Stretch.{HeadIs};
 
 // Rules 2.4 and 5.4: the code of the formula, 0 for another word.
 fn formula_code(line: &[u8]) -> u64
-    ensures { λ r. ⌜ coded r ≡ formulaOf (now (line .entry)) ⌝ }
+    ensures { λ r. ⌜ coded r ≡ formulaWord (now (line .entry)) ⌝ }
 {
     if same(line, b"formula=flat") {
         return 1;
@@ -38,7 +38,7 @@ fn formula_code(line: &[u8]) -> u64
 
 // Rules 2.7 and 5.4: the code of the method, 0 for another word.
 fn method_code(line: &[u8]) -> u64
-    ensures { λ r. ⌜ coded r ≡ methodOf (now (line .entry)) ⌝ }
+    ensures { λ r. ⌜ coded r ≡ methodWord (now (line .entry)) ⌝ }
 {
     if same(line, b"method=AB") {
         return 1;

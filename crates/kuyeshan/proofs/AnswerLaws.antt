@@ -18,42 +18,42 @@ use Rattle.costs.specs.declared.Valuation.the-variants.{Valued, Refused as Valu
 use Rattle.valuation.specs.declared.Answer.{Answer}
 use Rattle.valuation.specs.declared.Answer.the-variants.{Written, Refused as AnswerRefused}
 use Rattle.valuation.specs.Answers.{answer}
-use Rattle.kuyeshan.specs.Answers.{numberOf, lineOf, writtenOf}
+use Rattle.kuyeshan.specs.Answers.{numberOf, lineNumberOf, writtenOf}
 use Rattle.kuyeshan.specs.Values.{refusedBy, figuresAfter}
 
 -- ---- reading
-read-is : (o : Outcome Case) {r : Reading} → r ≡ reading o → r ≡ Read → (0 ≡ numberOf o) × (0 ≡ lineOf o)
+read-is : (o : Outcome Case) {r : Reading} → r ≡ reading o → r ≡ Read → (0 ≡ numberOf o) × (0 ≡ lineNumberOf o)
 read-is (values c) e is = (refl, refl)
 read-is (refusal k j) e is = let z : _≡_ {A = ℕ} 0 1 = cc in absurd (omega arith)
 
-refused-is : (o : Outcome Case) {r : Reading} {n l : ℕ} → r ≡ reading o → r ≡ ReadingRefused n l → (n ≡ numberOf o) × (l ≡ lineOf o)
+refused-is : (o : Outcome Case) {r : Reading} {n l : ℕ} → r ≡ reading o → r ≡ ReadingRefused n l → (n ≡ numberOf o) × (l ≡ lineNumberOf o)
 refused-is (values c) e is = let z : _≡_ {A = ℕ} 0 1 = cc in absurd (omega arith)
 refused-is (refusal k j) e is = (cc, cc)
 
 module _ (s : List ℕ) where
-  pub read-none : {r : Reading} → r ≡ readingOf s → r ≡ Read → (0 ≡ numberOf (walkOf false s)) × (0 ≡ lineOf (walkOf false s))
+  pub read-none : {r : Reading} → r ≡ readingOf s → r ≡ Read → (0 ≡ numberOf (walkOf false s)) × (0 ≡ lineNumberOf (walkOf false s))
   unfolding readingOf
   read-none = read-is (walkOf false s)
 
-  pub read-refused : {r : Reading} {n l : ℕ} → r ≡ readingOf s → r ≡ ReadingRefused n l → (n ≡ numberOf (walkOf false s)) × (l ≡ lineOf (walkOf false s))
+  pub read-refused : {r : Reading} {n l : ℕ} → r ≡ readingOf s → r ≡ ReadingRefused n l → (n ≡ numberOf (walkOf false s)) × (l ≡ lineNumberOf (walkOf false s))
   unfolding readingOf
   read-refused = refused-is (walkOf false s)
 
 -- ---- accepting
-pub accept-none : (o : Outcome Case) {r : Accepting} {p : Plan} {n : ℕ} → r ≡ accepting o → r ≡ Accepted p n → (0 ≡ numberOf o) × (0 ≡ lineOf o)
+pub accept-none : (o : Outcome Case) {r : Accepting} {p : Plan} {n : ℕ} → r ≡ accepting o → r ≡ Accepted p n → (0 ≡ numberOf o) × (0 ≡ lineNumberOf o)
 accept-none (values c) e is = (refl, refl)
 accept-none (refusal k j) e is = let z : _≡_ {A = ℕ} 0 1 = cc in absurd (omega arith)
 
-pub accept-refused : (o : Outcome Case) {r : Accepting} {n l : ℕ} → r ≡ accepting o → r ≡ AcceptingRefused n l → (n ≡ numberOf o) × (l ≡ lineOf o)
+pub accept-refused : (o : Outcome Case) {r : Accepting} {n l : ℕ} → r ≡ accepting o → r ≡ AcceptingRefused n l → (n ≡ numberOf o) × (l ≡ lineNumberOf o)
 accept-refused (values c) e is = let z : _≡_ {A = ℕ} 0 1 = cc in absurd (omega arith)
 accept-refused (refusal k j) e is = (cc, cc)
 
 -- ---- writing
-pub written-is : (o : Outcome (List ℕ)) {r : Answer} {n : ℕ} → r ≡ answer o → r ≡ Written n → (0 ≡ numberOf o) × (0 ≡ lineOf o) × (n ≡ writtenOf o)
+pub written-is : (o : Outcome (List ℕ)) {r : Answer} {n : ℕ} → r ≡ answer o → r ≡ Written n → (0 ≡ numberOf o) × (0 ≡ lineNumberOf o) × (n ≡ writtenOf o)
 written-is (values lines) e is = (refl, refl, cc)
 written-is (refusal k j) e is = let z : _≡_ {A = ℕ} 0 1 = cc in absurd (omega arith)
 
-pub write-refused : (o : Outcome (List ℕ)) {r : Answer} {n l : ℕ} → r ≡ answer o → r ≡ AnswerRefused n l → (n ≡ numberOf o) × (l ≡ lineOf o) × (0 ≡ writtenOf o)
+pub write-refused : (o : Outcome (List ℕ)) {r : Answer} {n l : ℕ} → r ≡ answer o → r ≡ AnswerRefused n l → (n ≡ numberOf o) × (l ≡ lineNumberOf o) × (0 ≡ writtenOf o)
 write-refused (values lines) e is = let z : _≡_ {A = ℕ} 0 1 = cc in absurd (omega arith)
 write-refused (refusal k j) e is = (cc, cc, refl)
 

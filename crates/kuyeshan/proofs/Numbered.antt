@@ -8,7 +8,7 @@ use lib.Dec.{leb, eqb}
 use lib.ListN.{length}
 use Rattle.acceptance.specs.Acceptance.{loneRefusal}
 use Rattle.walk.specs.Outcome.{Outcome, values, refusal, andThen}
-use Rattle.walk.specs.Answers.{Part, FormOf, term-cut, term-form, row-cut, row-form, tail-cut, count, tail-form, surplus, after-end, RangeOf, of-a-term, of-average, of-a-rate, of-death, of-weight, of-id, of-entry, of-age, of-salary, of-benefit, Placed, no-line, of-form, of-range}
+use Rattle.walk.specs.Answers.{Section, FormOf, term-cut, term-form, row-cut, row-form, tail-cut, count, tail-form, surplus, after-end, RangeOf, of-a-term, of-average, of-a-rate, of-death, of-weight, of-id, of-entry, of-age, of-salary, of-benefit, Placed, no-line, of-form, of-range}
 use Rattle.walk.proofs.Theorems.{refusals-are-placed}
 use Rattle.casefile.specs.Answers.{acceptingOf}
 use Rattle.costs.specs.declared.Figures.{Figures}
@@ -18,7 +18,7 @@ use Rattle.report.specs.Lines.{printed}
 use Rattle.valuation.specs.Answers.{fitting, valuedOf}
 use Rattle.kuyeshan.specs.Statements.{Numbered, ReadingNumbered, AcceptingNumbered, ValuingNumbered, FittingNumbered, MemberNumbered}
 
-form-above : {part : Part} {n : ℕ} → FormOf part n → 0 < n
+form-above : {part : Section} {n : ℕ} → FormOf part n → 0 < n
 form-above term-cut = omega arith
 form-above term-form = omega arith
 form-above row-cut = omega arith
@@ -29,7 +29,7 @@ form-above tail-form = omega arith
 form-above surplus = omega arith
 form-above after-end = omega arith
 
-range-above : {part : Part} {n : ℕ} → RangeOf part n → 0 < n
+range-above : {part : Section} {n : ℕ} → RangeOf part n → 0 < n
 range-above of-a-term = omega arith
 range-above of-average = omega arith
 range-above of-a-rate = omega arith

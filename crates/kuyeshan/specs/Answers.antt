@@ -10,9 +10,9 @@ numberOf (values a) = 0
 numberOf (refusal number line) = number
 
 -- its line
-abbrev pub lineOf : {A : Type 0} → Outcome A → ℕ
-lineOf (values a) = 0
-lineOf (refusal number line) = line
+abbrev pub lineNumberOf : {A : Type 0} → Outcome A → ℕ
+lineNumberOf (values a) = 0
+lineNumberOf (refusal number line) = line
 
 -- how many bytes were written
 abbrev pub writtenOf : Outcome (List ℕ) → ℕ

@@ -16,7 +16,7 @@ ghost use Rattle.casefile.specs.Answers.{acceptingOf};
 ghost use Rattle.costs.specs.Valuation.{valuation};
 ghost use Rattle.report.specs.Lines.{refusalLine};
 ghost use Rattle.valuation.specs.Answers.{fitting, valuedOf, buffer};
-ghost use Rattle.kuyeshan.specs.Answers.{numberOf, lineOf, writtenOf};
+ghost use Rattle.kuyeshan.specs.Answers.{numberOf, lineNumberOf, writtenOf};
 ghost use Rattle.walk.specs.Lines.{memberFrom};
 ghost use Rattle.kuyeshan.specs.Values.{refusedBy, figuresAfter};
 
@@ -24,7 +24,7 @@ ghost use Rattle.kuyeshan.specs.Values.{refusedBy, figuresAfter};
 #[no_mangle]
 pub extern "C" fn kuyeshan_read(case: &[u8], line: &mut u64) -> u64
     ensures { λ r. ⌜ r ≡ numberOf (walkOf false (now (case .entry))) ⌝ }
-    ensures { λ _. ⌜ now (line .exit) ≡ lineOf (walkOf false (now (case .entry))) ⌝ }
+    ensures { λ _. ⌜ now (line .exit) ≡ lineNumberOf (walkOf false (now (case .entry))) ⌝ }
 {
     match casefile::read_case(case) {
         Reading::Read => {
@@ -42,7 +42,7 @@ pub extern "C" fn kuyeshan_read(case: &[u8], line: &mut u64) -> u64
 #[no_mangle]
 pub extern "C" fn kuyeshan_accept(case: &[u8], line: &mut u64) -> u64
     ensures { λ r. ⌜ r ≡ numberOf (acceptingOf (now (case .entry))) ⌝ }
-    ensures { λ _. ⌜ now (line .exit) ≡ lineOf (acceptingOf (now (case .entry))) ⌝ }
+    ensures { λ _. ⌜ now (line .exit) ≡ lineNumberOf (acceptingOf (now (case .entry))) ⌝ }
 {
     let mut rows = [[0u32; 4]; 106];
     let mut members = [[0u64; 4]; 1000];
@@ -68,7 +68,7 @@ pub extern "C" fn kuyeshan_value(
 ) -> u64
     ensures { λ r. ⌜ r ≡ numberOf (valuedOf (length (now (out .entry))) (now (case .entry))) ⌝ }
     ensures { λ _. ⌜ now (out .exit) ≡ buffer (valuedOf (length (now (out .entry))) (now (case .entry))) (now (out .entry)) ⌝ }
-    ensures { λ _. ⌜ now (line .exit) ≡ lineOf (valuedOf (length (now (out .entry))) (now (case .entry))) ⌝ }
+    ensures { λ _. ⌜ now (line .exit) ≡ lineNumberOf (valuedOf (length (now (out .entry))) (now (case .entry))) ⌝ }
     ensures { λ _. ⌜ now (written .exit) ≡ writtenOf (valuedOf (length (now (out .entry))) (now (case .entry))) ⌝ }
 {
     match valuation::value_case(case, out) {

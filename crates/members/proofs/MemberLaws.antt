@@ -15,7 +15,7 @@ use Rattle.plan.specs.declared.Member.{Member}
 use Rattle.acceptance.specs.Acceptance.{planFrom, memberRefusal}
 use Rattle.walk.specs.Outcome.{values as held-values, refusal, settled}
 use Rattle.walk.specs.Lines.{Tail, end, mostMembers, memberFrom, tailOf}
-use Rattle.walk.specs.Step.{Head, people, ended as endedState, wrong, right, lastId, personRefusal, tailLine, lineOf, step}
+use Rattle.walk.specs.Step.{Head, people, ended as endedState, wrong, right, lastId, personRefusal, tailLine, verdictOf, step}
 use Rattle.walk.specs.Walk.{caseOf, walkFrom}
 use Rattle.walk.proofs.OutcomeLaws.{settled-none}
 use Rattle.walk.proofs.LineLaws.{from-line, from-end}
@@ -45,7 +45,7 @@ full-same count few = ⊎-elim
 
 -- ---- after the end line
 pub after-end : (ranges : Bool) (k : ℕ) (h : Head) (members : List Member) (s : List ℕ) → walkFrom ranges k (endedState h members) s ≡ cond (eqb (length s) 0) (held-values (caseOf h members)) (refusal 3 k)
-unfolding lineOf step hasOf
+unfolding verdictOf step hasOf
 after-end ranges k h members [] = from-end ranges k (endedState h members) [] refl
 after-end ranges k h members (b ∷ s) = pick (hasOf 10 (b ∷ s)) refl
   where
@@ -84,8 +84,8 @@ module _ {ranges : Bool} {p : Plan} {rows : List (List ℕ)} {from : ℕ} {s : L
   read = rw cut at given
 
   module _ (h : Head) (fits : Fits ranges p rows h) where
-    form : {x : Tail} (ahead : List ℕ) → tailOf (eqb count 1000) (uptoOf 10 (drop at s)) ≡ x → lineOf (people h (i .members)) (uptoOf 10 (drop at s)) ahead ≡ tailLine h (i .members) x
-    unfolding lineOf
+    form : {x : Tail} (ahead : List ℕ) → tailOf (eqb count 1000) (uptoOf 10 (drop at s)) ≡ x → verdictOf (people h (i .members)) (uptoOf 10 (drop at s)) ahead ≡ tailLine h (i .members) x
+    unfolding verdictOf
     form ahead is = rw (i .many, ← full-same count (i .few), is)
 
     pub members-cut : r ≡ Cut → walkFrom ranges from (people h []) s ≡ refusal 2 (from + count)
@@ -111,7 +111,7 @@ module _ {ranges : Bool} {p : Plan} {rows : List (List ℕ)} {from : ℕ} {s : L
     end-size = read .1 .count e is .1
 
     module _ (h : Head) (fits : Fits ranges p rows h) where
-      tail : lineOf (people h (i .members)) (uptoOf 10 (drop at s)) (uptoOf 10 (pastOf 10 (drop at s))) ≡ cond (eqb (getD values 0 0) count) (right 0 (endedState h (i .members))) (wrong 0 4)
+      tail : verdictOf (people h (i .members)) (uptoOf 10 (drop at s)) (uptoOf 10 (pastOf 10 (drop at s))) ≡ cond (eqb (getD values 0 0) count) (right 0 (endedState h (i .members))) (wrong 0 4)
       tail = form h fits (uptoOf 10 (pastOf 10 (drop at s))) (read .1 .count e is .0) ∙ rw (i .many)
 
       -- another count
@@ -147,7 +147,7 @@ module _ {ranges : Bool} {p : Plan} {rows : List (List ℕ)} {from : ℕ} {s : L
     room = ⊎-elim (λ (full : count ≡ 1000). full-none (uptoOf 10 (drop at s)) (memberFrom values) (rw (eq-eqb count 1000 full) at (read .1 .member e is .0))) (λ l. l) (eq-or-lt-of-le (i .few))
 
     module _ {m : Member} {x : ℕ} (made : m ≡ memberFrom values) (rule : x ≡ settled ranges (memberRefusal p rows before m)) where
-      good : (h : Head) → Fits ranges p rows h → lineOf (people h (i .members)) (uptoOf 10 (drop at s)) (uptoOf 10 (pastOf 10 (drop at s))) ≡ right (personRefusal h (i .members) m) (people h (i .members ++ m ∷ []))
+      good : (h : Head) → Fits ranges p rows h → verdictOf (people h (i .members)) (uptoOf 10 (drop at s)) (uptoOf 10 (pastOf 10 (drop at s))) ≡ right (personRefusal h (i .members) m) (people h (i .members ++ m ∷ []))
       good h fits = form h fits (uptoOf 10 (pastOf 10 (drop at s))) (read .1 .member e is .0) ∙ rw made
 
       judged : (h : Head) → Fits ranges p rows h → x ≡ settled ranges (personRefusal h (i .members) m)

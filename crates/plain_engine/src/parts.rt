@@ -13,13 +13,13 @@ ghost use Rattle.rates.specs.Table.{weight};
 ghost use Rattle.annuity.specs.Factors.{T, Z};
 ghost use Rattle.plan.specs.Weights.{summed};
 ghost use Rattle.plan.specs.Ranges.{AcceptedMember};
-ghost use Rattle.costs.specs.Valuation.{caseOf, planBasis};
+ghost use Rattle.costs.specs.Valuation.{settingOf, planBasis};
 ghost use Rattle.costs.specs.Parts.{earned as Parts·earned, added as Parts·added, adds as Parts·adds, divisor as Parts·divisor, partsAt};
 
 // The parts of an accepted member at an age k of its own, by any method.
 pub(crate) fn parts_at(p: Plan, rows: &Rows, m: Member, method: Method, k: usize) -> Parts
     requires { ⌜ AcceptedMember p (now rows) m × (m .entry ≤ k) × (k ≤ p .retire) ⌝ }
-    ensures { λ q. ⌜ q ≡ partsAt (caseOf p (now (rows .entry)) m) k method ⌝ }
+    ensures { λ q. ⌜ q ≡ partsAt (settingOf p (now (rows .entry)) m) k method ⌝ }
 {
     let annuity = annuity::deferred_annuity(*rows, p.retire as usize, p.interest);
     let benefit = accrued_benefit(p, rows, m, p.retire);
@@ -41,7 +41,7 @@ pub(crate) fn parts_at(p: Plan, rows: &Rows, m: Member, method: Method, k: usize
 // What is earned by age e, in the method's own measure.
 fn earned(p: Plan, rows: &Rows, m: Member, method: Method, e: usize) -> u64
     requires { ⌜ AcceptedMember p (now rows) m × (m .entry ≤ e) × (e ≤ p .retire) ⌝ }
-    ensures { λ r. ⌜ r ≡ Parts·earned (caseOf p (now (rows .entry)) m) e method ⌝ }
+    ensures { λ r. ⌜ r ≡ Parts·earned (settingOf p (now (rows .entry)) m) e method ⌝ }
 {
     match method {
         Method::AB => accrued_benefit(p, rows, m, e as u64),
@@ -54,8 +54,8 @@ fn earned(p: Plan, rows: &Rows, m: Member, method: Method, e: usize) -> u64
 
 // What the year from age k on adds to what is earned by k: nothing from r on.
 fn added(p: Plan, rows: &Rows, m: Member, method: Method, k: usize, earned: u64) -> u64
-    requires { ⌜ AcceptedMember p (now rows) m × (m .entry ≤ k) × (earned ≡ Parts·earned (caseOf p (now rows) m) k method) ⌝ }
-    ensures { λ r. ⌜ r ≡ Parts·added (caseOf p (now (rows .entry)) m) k method ⌝ }
+    requires { ⌜ AcceptedMember p (now rows) m × (m .entry ≤ k) × (earned ≡ Parts·earned (settingOf p (now rows) m) k method) ⌝ }
+    ensures { λ r. ⌜ r ≡ Parts·added (settingOf p (now (rows .entry)) m) k method ⌝ }
 {
     if p.retire as usize <= k {
         return 0;
@@ -65,8 +65,8 @@ fn added(p: Plan, rows: &Rows, m: Member, method: Method, k: usize, earned: u64)
 
 // The same below r. By AB that is B(k+1) less what is earned, so that B(k) is worked once.
 fn adds(p: Plan, rows: &Rows, m: Member, method: Method, k: usize, earned: u64) -> u64
-    requires { ⌜ AcceptedMember p (now rows) m × (m .entry ≤ k) × (k < p .retire) × (earned ≡ Parts·earned (caseOf p (now rows) m) k method) ⌝ }
-    ensures { λ r. ⌜ r ≡ Parts·adds (caseOf p (now (rows .entry)) m) k method ⌝ }
+    requires { ⌜ AcceptedMember p (now rows) m × (m .entry ≤ k) × (k < p .retire) × (earned ≡ Parts·earned (settingOf p (now rows) m) k method) ⌝ }
+    ensures { λ r. ⌜ r ≡ Parts·adds (settingOf p (now (rows .entry)) m) k method ⌝ }
 {
     match method {
         Method::AB => accrued_benefit(p, rows, m, k as u64 + 1) - earned,
@@ -80,7 +80,7 @@ fn adds(p: Plan, rows: &Rows, m: Member, method: Method, k: usize, earned: u64) 
 // What N and L are divided by.
 fn divisor(p: Plan, rows: &Rows, m: Member, method: Method) -> u64
     requires { ⌜ AcceptedMember p (now rows) m ⌝ }
-    ensures { λ r. ⌜ r ≡ Parts·divisor (caseOf p (now (rows .entry)) m) method ⌝ }
+    ensures { λ r. ⌜ r ≡ Parts·divisor (settingOf p (now (rows .entry)) m) method ⌝ }
 {
     match method {
         Method::AB => annuity::S,

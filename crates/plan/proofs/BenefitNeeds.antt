@@ -14,7 +14,7 @@ use Rattle.plan.specs.declared.Formula.{Formula}
 use Rattle.plan.specs.declared.Formula.the-variants.{Flat, Career, Final}
 use Rattle.plan.specs.Weights.{summed, firstPaid}
 use Rattle.plan.specs.Benefit.{formulaOf}
-use Rattle.plan.specs.Ranges.{PlanRanges, Placed}
+use Rattle.plan.specs.Ranges.{PlanRanges, InRange}
 use Rattle.plan.proofs.WeightLaws.{summed-most}
 
 -- ---- products that fit a word
@@ -71,7 +71,7 @@ module _ {p : Plan} {rows : List (List ℕ)} (ranges : PlanRanges p rows) where
   weight-some k low high = omega (arith, ranges .least k low high)
 
   -- ---- and of a member of it, at an age k from entry to retirement
-  module _ {m : Member} (placed : Placed p m) where
+  module _ {m : Member} (placed : InRange p m) where
     pub age-low : 15 ≤ m .age
     age-low = omega (arith, placed .grown, placed .past-entry)
 

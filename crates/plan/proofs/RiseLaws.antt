@@ -17,13 +17,13 @@ use Rattle.plan.specs.declared.Formula.{Formula}
 use Rattle.plan.specs.declared.Formula.the-variants.{Flat, Career, Final}
 use Rattle.plan.specs.Weights.{summed}
 use Rattle.plan.specs.Benefit.{formulaOf, B}
-use Rattle.plan.specs.Ranges.{HeadRanges, PlanRanges, Placed}
+use Rattle.plan.specs.Ranges.{HeadRanges, PlanRanges, InRange}
 use Rattle.plan.specs.Rising.{Rising, Climbing, Never-Falls}
 use Rattle.plan.proofs.WeightLaws.{summed-more, summed-climbs}
 use Rattle.plan.proofs.BenefitLaws.{final-code, none-at-entry, flat-benefit, career-benefit, final-benefit}
 use Rattle.plan.proofs.BenefitNeeds.{weight-some}
 
-module _ (p : Plan) (rows : List (List ℕ)) (m : Member) (head : HeadRanges p) (weights : Climbing rows) (placed : Placed p m) where
+module _ (p : Plan) (rows : List (List ℕ)) (m : Member) (head : HeadRanges p) (weights : Climbing rows) (placed : InRange p m) where
   open Plan p using (unit, average, retire)
   open Member m using (entry, age, salary)
 

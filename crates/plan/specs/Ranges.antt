@@ -28,7 +28,7 @@ pub record PlanRanges (p : Plan) (rows : List (List ℕ)) : Type 0 where
   pub climbs : (k : ℕ) → 15 ≤ k → k < 120 → weight rows k ≤ weight rows (k + 1)
 
 -- a member that keeps rules 4.3 to 4.5
-pub record Placed (p : Plan) (m : Member) : Type 0 where
+pub record InRange (p : Plan) (m : Member) : Type 0 where
   pub grown : 15 ≤ m .entry
   pub enters : m .entry < p .retire
   pub past-entry : m .entry ≤ m .age
@@ -38,5 +38,5 @@ pub record Placed (p : Plan) (m : Member) : Type 0 where
 -- what is handed on: such a member of such a plan, that keeps rule 7.8 too; its id plays no part in the figures
 pub record AcceptedMember (p : Plan) (rows : List (List ℕ)) (m : Member) : Type 0 where
   pub plan : PlanRanges p rows
-  pub placed : Placed p m
+  pub placed : InRange p m
   pub capped : B p rows m (p .retire) ≤ 100000000

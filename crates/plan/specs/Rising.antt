@@ -5,7 +5,7 @@ use Rattle.rates.specs.Table.{weight}
 use Rattle.plan.specs.declared.Plan.{Plan}
 use Rattle.plan.specs.declared.Member.{Member}
 use Rattle.plan.specs.Benefit.{B}
-use Rattle.plan.specs.Ranges.{HeadRanges, Placed}
+use Rattle.plan.specs.Ranges.{HeadRanges, InRange}
 
 -- rule 7.9: B(k) ≤ B(k+1), for each age k from y to r − 1
 abbrev pub Rising : Plan → List (List ℕ) → Member → Type 0
@@ -19,4 +19,4 @@ pub record Climbing (rows : List (List ℕ)) : Type 0 where
 -- by each of the three formulas: under a heading that keeps rules 2.2 to 2.9, and of the table by its weights alone
 abbrev pub Never-Falls : Type 0
 Never-Falls =
-    (p : Plan) (rows : List (List ℕ)) (m : Member) → HeadRanges p → Climbing rows → Placed p m → Rising p rows m
+    (p : Plan) (rows : List (List ℕ)) (m : Member) → HeadRanges p → Climbing rows → InRange p m → Rising p rows m

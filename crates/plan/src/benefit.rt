@@ -9,7 +9,7 @@ ghost use Rattle.rounding.specs.Nearest.{nearest};
 ghost use Rattle.rates.specs.Table.{Table, weight};
 ghost use Rattle.plan.specs.Weights.{summed, firstPaid};
 ghost use Rattle.plan.specs.Benefit.{formulaOf, B};
-ghost use Rattle.plan.specs.Ranges.{PlanRanges, Placed};
+ghost use Rattle.plan.specs.Ranges.{PlanRanges, InRange};
 
 fn formula_of(code: u64) -> Formula
     ensures { λ f. ⌜ f ≡ formulaOf code ⌝ }
@@ -76,7 +76,7 @@ fn first_paid(formula: Formula, average: u64, entry: u64, k: u64) -> u64
 // Rules 7.3 to 7.7, B(k): what has accrued by age k. The ages whose pay it rests on go from `first` to k - 1, and `weights`
 // is the sum of theirs.
 fn benefit(p: Plan, rows: &[[u32; 4]; 106], m: Member, k: u64, first: u64, weights: u64) -> u64
-    requires { ⌜ PlanRanges p (now rows) × Placed p m × (m .entry ≤ k) × (k ≤ p .retire) × (first ≡ firstPaid (formulaOf (p .formula)) (p .average) (m .entry) k) × (weights ≡ summed (weight (now rows)) first (k - first)) ⌝ }
+    requires { ⌜ PlanRanges p (now rows) × InRange p m × (m .entry ≤ k) × (k ≤ p .retire) × (first ≡ firstPaid (formulaOf (p .formula)) (p .average) (m .entry) k) × (weights ≡ summed (weight (now rows)) first (k - first)) ⌝ }
     ensures { λ r. ⌜ r ≡ B p (now (rows .entry)) m k ⌝ }
 {
     let entry = m.entry;
@@ -96,7 +96,7 @@ fn benefit(p: Plan, rows: &[[u32; 4]; 106], m: Member, k: u64, first: u64, weigh
 
 // B(k), for an age k from entry to retirement.
 pub fn accrued_benefit(p: Plan, rows: &[[u32; 4]; 106], m: Member, k: u64) -> u64
-    requires { ⌜ PlanRanges p (now rows) × Placed p m × (m .entry ≤ k) × (k ≤ p .retire) ⌝ }
+    requires { ⌜ PlanRanges p (now rows) × InRange p m × (m .entry ≤ k) × (k ≤ p .retire) ⌝ }
     ensures { λ r. ⌜ r ≡ B p (now (rows .entry)) m k ⌝ }
 {
     let first = first_paid(formula_of(p.formula), p.average, m.entry, k);

@@ -10,8 +10,8 @@ use borrow.Author.Tests.{lt-ltb, le-ltb}
 use lib.ListN.{length, length-append}
 use lib.IntN.{pos, negℤ}
 use Rattle.rounding.specs.declared.Signed.{Signed}
-use Rattle.rounding.specs.Signed.{integer}
-use Rattle.printing.specs.Amounts.{digits, widthUpTo, width, whole, amount, signedAmount}
+use Rattle.rounding.specs.Signed.{integerOf}
+use Rattle.printing.specs.Amounts.{digits, widthUpTo, width, wholeNumber, amount, signedAmount}
 
 digits-length : (w n : ℕ) → length (digits w n) ≡ w
 unfolding digits
@@ -37,8 +37,8 @@ no-wider (suc w) (suc f) n h =
     pick true e = omega arith
     pick false e = omega arith
 
-pub whole-most : (w n : ℕ) → n < 10 ^ suc w → length (whole n) ≤ suc w
-unfolding whole width
+pub whole-most : (w n : ℕ) → n < 10 ^ suc w → length (wholeNumber n) ≤ suc w
+unfolding wholeNumber width
 whole-most w n h = rw (digits-length (widthUpTo n n) n) (no-wider w n n h)
 
 pub width-one : (n : ℕ) → n < 10 → width n ≡ 1
@@ -52,32 +52,32 @@ width-more zero h = absurd (omega arith)
 width-more (suc n) h = simp (le-ltb (suc n) 10 h) (ap suc (enough n (suc n / 10) (suc n / 10) (omega arith) (omega arith)))
 
 -- all digits but the last two, and then these
-pub whole-one : (n : ℕ) → n < 10 → whole n ≡ (48 + n % 10) ∷ []
-unfolding whole digits
+pub whole-one : (n : ℕ) → n < 10 → wholeNumber n ≡ (48 + n % 10) ∷ []
+unfolding wholeNumber digits
 whole-one n h = rw (width-one n h)
 
-pub whole-two : (n : ℕ) → 10 ≤ n → n < 100 → whole n ≡ digits 2 n
-unfolding whole
+pub whole-two : (n : ℕ) → 10 ≤ n → n < 100 → wholeNumber n ≡ digits 2 n
+unfolding wholeNumber
 whole-two n h less = rw (width-more n h, width-one (n / 10) (omega arith))
 
-pub whole-more : (n : ℕ) → 100 ≤ n → whole n ≡ whole (n / 100) ++ digits 2 n
-unfolding whole digits
+pub whole-more : (n : ℕ) → 100 ≤ n → wholeNumber n ≡ wholeNumber (n / 100) ++ digits 2 n
+unfolding wholeNumber digits
 whole-more n h =
     let hundreds : n / 10 / 10 ≡ n / 100 = omega arith in
     rw (width-more n (omega arith), width-more (n / 10) (omega arith), hundreds) (append-assoc (digits (width (n / 100)) (n / 100)) _ _)
 
-pub whole-four : (n : ℕ) → 10000 ≤ n → whole n ≡ whole (n / 10000) ++ digits 2 (n / 100) ++ digits 2 n
+pub whole-four : (n : ℕ) → 10000 ≤ n → wholeNumber n ≡ wholeNumber (n / 10000) ++ digits 2 (n / 100) ++ digits 2 n
 whole-four n h =
     let next : n / 100 / 100 ≡ n / 10000 = omega arith in
     rw (whole-more n (omega arith), whole-more (n / 100) (omega arith), next)
 
-pub amount-parts : (cents : ℕ) → amount cents ≡ whole (cents / 100) ++ (46 ∷ []) ++ digits 2 cents
+pub amount-parts : (cents : ℕ) → amount cents ≡ wholeNumber (cents / 100) ++ (46 ∷ []) ++ digits 2 cents
 unfolding amount
 amount-parts cents = simp append-assoc
 
 -- what is negative has a sign, and nothing else has
-pub signed-parts : (z : Signed) {t : Bool} → t ≡ (z .negative && ltb 0 (z .size)) → signedAmount (integer z) ≡ cond t (45 ∷ amount (z .size)) (amount (z .size))
-unfolding integer signedAmount
+pub signed-parts : (z : Signed) {t : Bool} → t ≡ (z .negative && ltb 0 (z .size)) → signedAmount (integerOf z) ≡ cond t (45 ∷ amount (z .size)) (amount (z .size))
+unfolding integerOf signedAmount
 signed-parts z = pick (z .negative) (z .size)
   where
     pick : (s : Bool) (n : ℕ) {t : Bool} → t ≡ (s && ltb 0 n) → signedAmount (cond s (negℤ (pos n)) (pos n)) ≡ cond t (45 ∷ amount n) (amount n)

@@ -20,12 +20,12 @@ unfoldable pub width : ℕ → ℕ
 width n = widthUpTo n n
 
 -- rule 1.3: a whole number
-unfoldable pub whole : ℕ → List ℕ
-whole n = digits (width n) n
+unfoldable pub wholeNumber : ℕ → List ℕ
+wholeNumber n = digits (width n) n
 
 -- rule 1.4, cents as an amount in dollars: a whole number, a point, two digits
 unfoldable pub amount : ℕ → List ℕ
-amount cents = whole (cents / 100) ++ 46 ∷ digits 2 cents
+amount cents = wholeNumber (cents / 100) ++ 46 ∷ digits 2 cents
 
 -- rule 13.4, a signed amount: below 0 the digits come directly after byte 45
 unfoldable pub signedAmount : ℤ → List ℕ

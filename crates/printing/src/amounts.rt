@@ -6,8 +6,8 @@ ghost use mathlib.Core.List.{[], _∷_};
 ghost use Prim.Native.Nat.{_+_, _%_, _^_, _≤_, _<_};
 ghost use lib.Dec.{ltb};
 ghost use lib.ListN.{length};
-ghost use Rattle.rounding.specs.Signed.{integer};
-ghost use Rattle.printing.specs.Amounts.{digits, whole, amount, signedAmount};
+ghost use Rattle.rounding.specs.Signed.{integerOf};
+ghost use Rattle.printing.specs.Amounts.{digits, wholeNumber, amount, signedAmount};
 ghost use Rattle.printing.specs.Puts.{Puts};
 
 // Writes a byte, where the buffer reaches that far. Every writer stores through here, so that past its end each measures.
@@ -57,7 +57,7 @@ fn write_two(out: &mut [u8], at: usize, n: u64) -> usize
 // Writes a whole number of one digit or two.
 fn write_small(out: &mut [u8], at: usize, n: u64) -> usize
     requires { ⌜ (n < 100) × (at + 2 < 2 ^ 64) ⌝ }
-    ensures { λ r. ⌜ Puts (now (out .entry)) at (whole n) (now (out .exit)) r ⌝ }
+    ensures { λ r. ⌜ Puts (now (out .entry)) at (wholeNumber n) (now (out .exit)) r ⌝ }
     ensures { λ r. ⌜ r ≤ at + 2 ⌝ }
 {
     if n < 10 {
@@ -70,7 +70,7 @@ fn write_small(out: &mut [u8], at: usize, n: u64) -> usize
 // by one.
 pub(crate) fn write_whole(out: &mut [u8], at: usize, n: u64) -> usize
     requires { ⌜ at + 20 < 2 ^ 64 ⌝ }
-    ensures { λ r. ⌜ Puts (now (out .entry)) at (whole n) (now (out .exit)) r ⌝ }
+    ensures { λ r. ⌜ Puts (now (out .entry)) at (wholeNumber n) (now (out .exit)) r ⌝ }
     ensures { λ r. ⌜ r ≤ at + 20 ⌝ }
 {
     if n < 100 {
@@ -119,7 +119,7 @@ fn write_after(out: &mut [u8], at: usize, cents: u64) -> usize
 // Rule 13.4, writes a signed amount: the sign, if one is due, and after it the amount.
 pub(crate) fn write_signed(out: &mut [u8], at: usize, z: Signed) -> usize
     requires { ⌜ at + 24 < 2 ^ 64 ⌝ }
-    ensures { λ r. ⌜ Puts (now (out .entry)) at (signedAmount (integer z)) (now (out .exit)) r ⌝ }
+    ensures { λ r. ⌜ Puts (now (out .entry)) at (signedAmount (integerOf z)) (now (out .exit)) r ⌝ }
     ensures { λ r. ⌜ r ≤ at + 24 ⌝ }
 {
     if has_sign(z) {

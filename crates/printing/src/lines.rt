@@ -8,15 +8,15 @@ use rounding::Signed;
 ghost use mathlib.Core.List.{[], _∷_, _++_};
 ghost use Prim.Native.Nat.{_+_, _^_, _≤_, _<_};
 ghost use lib.ListN.{length};
-ghost use Rattle.rounding.specs.Signed.{integer};
-ghost use Rattle.printing.specs.Amounts.{whole, amount};
+ghost use Rattle.rounding.specs.Signed.{integerOf};
+ghost use Rattle.printing.specs.Amounts.{wholeNumber, amount};
 ghost use Rattle.printing.specs.Lines.{fields, signedLine, pairLine};
 ghost use Rattle.printing.specs.Puts.{Puts};
 
 // Writes how a line begins that has a number: its key and the number.
 pub fn write_start(out: &mut [u8], at: usize, key: &[u8], n: u64) -> usize
     requires { ⌜ (length (now key) ≤ 16) × (at + 36 < 2 ^ 64) ⌝ }
-    ensures { λ r. ⌜ Puts (now (out .entry)) at (now (key .entry) ++ whole n) (now (out .exit)) r ⌝ }
+    ensures { λ r. ⌜ Puts (now (out .entry)) at (now (key .entry) ++ wholeNumber n) (now (out .exit)) r ⌝ }
     ensures { λ r. ⌜ r ≤ at + 36 ⌝ }
 {
     let a = write_text(out, at, key);
@@ -48,7 +48,7 @@ pub fn write_end(out: &mut [u8], at: usize, value: u64, cost: u64, liability: u6
 // Writes a line of a signed amount.
 pub fn write_signed_line(out: &mut [u8], at: usize, key: &[u8], z: Signed) -> usize
     requires { ⌜ (length (now key) ≤ 16) × (at + 41 < 2 ^ 64) ⌝ }
-    ensures { λ r. ⌜ Puts (now (out .entry)) at (signedLine (now (key .entry)) (integer z)) (now (out .exit)) r ⌝ }
+    ensures { λ r. ⌜ Puts (now (out .entry)) at (signedLine (now (key .entry)) (integerOf z)) (now (out .exit)) r ⌝ }
     ensures { λ r. ⌜ r ≤ at + 41 ⌝ }
 {
     let a = write_text(out, at, key);

@@ -8,7 +8,7 @@ use lib.ListN.{length, length-append}
 use lib.IntN.{pos, _-ℤ_, _*ℤ_}
 use Rattle.rounding.specs.Nearest.{nearestℤ}
 use Rattle.rounding.specs.declared.Signed.{Signed}
-use Rattle.rounding.specs.Signed.{integer, signed}
+use Rattle.rounding.specs.Signed.{integerOf, signed}
 use Rattle.annuity.specs.Factors.{S, C}
 use Rattle.plan.specs.declared.Plan.{Plan}
 use Rattle.plan.specs.declared.Member.{Member}
@@ -19,7 +19,7 @@ use Rattle.printing.proofs.AmountLaws.{whole-most}
 use Rattle.printing.proofs.SetsLaws.{_then_}
 use Rattle.totals.specs.declared.Totals.{Totals}
 use Rattle.totals.specs.Totals.{totals, unfunded, supplemental}
-use Rattle.totals.specs.Worked.{figuresIn, membersIn, Worked}
+use Rattle.totals.specs.Worked.{figuresIn, membersIn, AreWorked}
 use Rattle.totals.proofs.TotalLaws.{integer-signed}
 use Rattle.report.specs.Lines.{figuresLine, memberLine, memberLines, planLines, printed, refusalLine}
 use Rattle.report.specs.Worked.{linesIn}
@@ -42,7 +42,7 @@ module _ (p : Plan) (rows : List (List ℕ)) where
   lines-more (x ∷ l) m = rw (lines-more l m) (sym (append-assoc (memberLine p rows x) (memberLines p rows l) (memberLine p rows m)))
 
   module _ (members worked : List (List ℕ)) where
-    lines-are : (n : ℕ) → Worked p rows members worked n → linesIn members worked n ≡ memberLines p rows (membersIn members n)
+    lines-are : (n : ℕ) → AreWorked p rows members worked n → linesIn members worked n ≡ memberLines p rows (membersIn members n)
     unfolding linesIn membersIn memberLines memberLine
     lines-are zero is = refl
     lines-are (suc n) is =
@@ -53,7 +53,7 @@ module _ (p : Plan) (rows : List (List ℕ)) where
     members-count zero = refl
     members-count (suc n) = simp (length-append, members-count n) (omega arith)
 
-    pub printed-is : (n : ℕ) {t : Totals} {u s : Signed} → Worked p rows members worked n → t ≡ totals p rows (membersIn members n) → u ≡ signed (pos (t .liability) -ℤ pos (p .assets)) → s ≡ signed (nearestℤ (integer u *ℤ pos S) (C (p .interest) (p .years))) → linesIn members worked n ++ planLines n t (integer u) (integer s) ≡ printed p rows (membersIn members n)
+    pub printed-is : (n : ℕ) {t : Totals} {u s : Signed} → AreWorked p rows members worked n → t ≡ totals p rows (membersIn members n) → u ≡ signed (pos (t .liability) -ℤ pos (p .assets)) → s ≡ signed (nearestℤ (integerOf u *ℤ pos S) (C (p .interest) (p .years))) → linesIn members worked n ++ planLines n t (integerOf u) (integerOf s) ≡ printed p rows (membersIn members n)
     unfolding printed unfunded supplemental
     printed-is n is sums z w =
         rw (w, z, integer-signed, integer-signed, sums, lines-are n is, members-count n)

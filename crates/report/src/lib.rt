@@ -14,7 +14,7 @@ use totals::figures_at;
 use totals::member_at;
 ghost use mathlib.Core.List.{_++_};
 ghost use Prim.Native.Nat.{_+_, _^_, _≤_, _<_};
-ghost use Rattle.rounding.specs.Signed.{integer};
+ghost use Rattle.rounding.specs.Signed.{integerOf};
 ghost use Rattle.printing.specs.Puts.{Puts};
 ghost use Rattle.report.specs.Lines.{figuresLine, planLines, refusalLine};
 ghost use Rattle.report.specs.Worked.{linesIn};
@@ -57,7 +57,7 @@ fn write_plan_lines(
     supplemental: Signed,
 ) -> usize
     requires { ⌜ at + 191 < 2 ^ 64 ⌝ }
-    ensures { λ r. ⌜ Puts (now (out .entry)) at (planLines count t (integer unfunded) (integer supplemental)) (now (out .exit)) r ⌝ }
+    ensures { λ r. ⌜ Puts (now (out .entry)) at (planLines count t (integerOf unfunded) (integerOf supplemental)) (now (out .exit)) r ⌝ }
 {
     let a = write_start(out, at, b"total=", count);
     let b = write_end(out, a, t.value, t.cost, t.liability);
@@ -76,7 +76,7 @@ pub fn write_lines(
     supplemental: Signed,
 ) -> usize
     requires { ⌜ count ≤ 1000 ⌝ }
-    ensures { λ r. ⌜ Puts (now (out .entry)) 0 (linesIn (now (members .entry)) (now (worked .entry)) count ++ planLines count t (integer unfunded) (integer supplemental)) (now (out .exit)) r ⌝ }
+    ensures { λ r. ⌜ Puts (now (out .entry)) 0 (linesIn (now (members .entry)) (now (worked .entry)) count ++ planLines count t (integerOf unfunded) (integerOf supplemental)) (now (out .exit)) r ⌝ }
 {
     let at = write_member_lines(out, members, worked, count as usize);
     write_plan_lines(out, at, count, t, unfunded, supplemental)

@@ -5,8 +5,8 @@ use lib.IntN.{ℤ, pos, negsuc, negℤ}
 use Rattle.rounding.specs.declared.Signed.{Signed}
 
 -- the integer that a sign and a size make
-unfoldable pub integer : Signed → ℤ
-integer s = cond (s .negative) (negℤ (pos (s .size))) (pos (s .size))
+unfoldable pub integerOf : Signed → ℤ
+integerOf s = cond (s .negative) (negℤ (pos (s .size))) (pos (s .size))
 
 -- the sign and the size of an integer; zero has no sign
 unfoldable pub signed : ℤ → Signed

@@ -12,7 +12,7 @@ ghost use Prim.Native.Nat.{_+_, _*_, _^_, _<_};
 ghost use lib.IntN.{pos, _*ℤ_};
 ghost use Rattle.division.specs.Words.{value};
 ghost use Rattle.rounding.specs.Nearest.{nearest, nearestℤ};
-ghost use Rattle.rounding.specs.Signed.{integer, signed};
+ghost use Rattle.rounding.specs.Signed.{integerOf, signed};
 
 // The nearest whole to a division's exact quotient, from its pair and without another division (rule 6.4): whether the
 // quotient is odd is its last bit. The remainder is held against what it lacks to the divisor, so that nothing is doubled.
@@ -76,7 +76,7 @@ pub struct Signed {
 // a * b / d for a signed a: rule 6.2, the size is rounded and the sign put back.
 pub fn signed_mul_div_nearest(a: Signed, b: u64, d: u64) -> Signed
     requires { ⌜ (0 < d) × (nearest (a .size * b) d < 2 ^ 64) ⌝ }
-    ensures { λ r. ⌜ r ≡ signed (nearestℤ (integer a *ℤ pos b) d) ⌝ }
+    ensures { λ r. ⌜ r ≡ signed (nearestℤ (integerOf a *ℤ pos b) d) ⌝ }
 {
     let size = mul_div_nearest(a.size, b, d);
     if size == 0 {

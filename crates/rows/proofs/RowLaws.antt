@@ -21,8 +21,8 @@ use Rattle.acceptance.specs.Acceptance.{rowRules, rowNumbers, weightBefore}
 use Rattle.acceptance.proofs.RuleLaws.{weight-passed}
 use Rattle.acceptance.proofs.Facts.{all-kept, kept}
 use Rattle.walk.specs.Outcome.{refusal, settled}
-use Rattle.walk.specs.Lines.{rowOf, ages, dueAge, rowRefusal}
-use Rattle.walk.specs.Step.{table, right, withRow, afterRow, rowLine, lineOf}
+use Rattle.walk.specs.Lines.{rowForm, ages, dueAge, rowRefusal}
+use Rattle.walk.specs.Step.{table, right, withRow, afterRow, rowLine, verdictOf}
 use Rattle.walk.specs.Walk.{walkFrom}
 use Rattle.walk.specs.Kept.{Each}
 use Rattle.walk.proofs.StepLaws.{each-next}
@@ -69,8 +69,8 @@ pub rows-none : (ranges : Bool) (from : ℕ) (s : List ℕ) (array : List (List 
 rows-none ranges from s array size =
     record { rows = []; many = refl; size = size; few = omega arith; place = omega arith; within = omega arith; weighed = refl; held = refl; exact = λ on. refl; kept = λ on. tt; way = λ t. refl }
 
-module _ {ranges : Bool} {from : ℕ} {s : List ℕ} {array : List (List ℕ)} {line at k before : ℕ} (i : RowsRead ranges from s array line at k before) (more : k < 106) (values : List ℕ) {rest : List ℕ} (cut : rest ≡ drop at s) {r : Line} (given : Answers (rowOf (k + 15)) rest r (RowHeld (rowOf (k + 15) (uptoOf 10 rest)) values)) where
-  read : Answers (rowOf (k + 15)) (drop at s) r (RowHeld (rowOf (k + 15) (uptoOf 10 (drop at s))) values)
+module _ {ranges : Bool} {from : ℕ} {s : List ℕ} {array : List (List ℕ)} {line at k before : ℕ} (i : RowsRead ranges from s array line at k before) (more : k < 106) (values : List ℕ) {rest : List ℕ} (cut : rest ≡ drop at s) {r : Line} (given : Answers (rowForm (k + 15)) rest r (RowHeld (rowForm (k + 15) (uptoOf 10 rest)) values)) where
+  read : Answers (rowForm (k + 15)) (drop at s) r (RowHeld (rowForm (k + 15) (uptoOf 10 (drop at s))) values)
   read = rw cut at given
 
   module _ (t : List ℕ) where
@@ -78,35 +78,35 @@ module _ {ranges : Bool} {from : ℕ} {s : List ℕ} {array : List (List ℕ)} {
     due = i .way t ∙ simp (ne-eqb (length (i .rows)) ages (λ e. omega (arith, i .many)))
 
     pub rows-cut : r ≡ Cut → walkFrom ranges from (table (headed t)) s ≡ refusal 2 line
-    rows-cut is = due ∙ line-cut ranges line (table (tabled t (i .rows))) (drop at s) (is-cut (rowOf (k + 15)) (drop at s) (read .0) is)
+    rows-cut is = due ∙ line-cut ranges line (table (tabled t (i .rows))) (drop at s) (is-cut (rowForm (k + 15)) (drop at s) (read .0) is)
 
-    form : {x : Values} (ahead : List ℕ) → rowOf (k + 15) (uptoOf 10 (drop at s)) ≡ x → lineOf (table (tabled t (i .rows))) (uptoOf 10 (drop at s)) ahead ≡ rowLine (tabled t (i .rows)) x
-    unfolding lineOf
+    form : {x : Values} (ahead : List ℕ) → rowForm (k + 15) (uptoOf 10 (drop at s)) ≡ x → verdictOf (table (tabled t (i .rows))) (uptoOf 10 (drop at s)) ahead ≡ rowLine (tabled t (i .rows)) x
+    unfolding verdictOf
     form ahead is = rw (i .many, is)
 
     pub rows-wrong : r ≡ Wrong → walkFrom ranges from (table (headed t)) s ≡ refusal 10 line
     rows-wrong is =
-        let w = is-wrong (rowOf (k + 15)) (drop at s) (read .0) is in
+        let w = is-wrong (rowForm (k + 15)) (drop at s) (read .0) is in
         due ∙ line-wrong ranges line (table (tabled t (i .rows))) (drop at s) (w .0) (form (uptoOf 10 (pastOf 10 (drop at s))) (w .1))
 
   module _ {e x : ℕ} (is : r ≡ Good e) (rule : x ≡ settled ranges (firstOf (rowRules (k + 15) before (rowNumbers (fourOf values))))) where
     judged : x ≡ settled ranges (rowRefusal (i .rows) (fourOf values))
     judged = rule ∙ rw (i .weighed, i .many)
 
-    good : (t : List ℕ) → lineOf (table (tabled t (i .rows))) (uptoOf 10 (drop at s)) (uptoOf 10 (pastOf 10 (drop at s))) ≡ right (rowRefusal (i .rows) (fourOf values)) (afterRow (withRow (tabled t (i .rows)) (fourOf values)))
+    good : (t : List ℕ) → verdictOf (table (tabled t (i .rows))) (uptoOf 10 (drop at s)) (uptoOf 10 (pastOf 10 (drop at s))) ≡ right (rowRefusal (i .rows) (fourOf values)) (afterRow (withRow (tabled t (i .rows)) (fourOf values)))
     good t = form t (uptoOf 10 (pastOf 10 (drop at s))) (read .1 e is .is)
 
     pub rows-refused : (x ≡ 0 → ⊥) → (t : List ℕ) → walkFrom ranges from (table (headed t)) s ≡ refusal x line
     rows-refused h t =
-        due t ∙ line-refused ranges line (table (tabled t (i .rows))) (drop at s) (is-good (rowOf (k + 15)) (drop at s) (read .0) is .has) (good t) judged h
+        due t ∙ line-refused ranges line (table (tabled t (i .rows))) (drop at s) (is-good (rowForm (k + 15)) (drop at s) (read .0) is .has) (good t) judged h
 
     pub rows-place : at + (e + 1) ≤ length s
-    rows-place = next-within s at e (is-good (rowOf (k + 15)) (drop at s) (read .0) is)
+    rows-place = next-within s at e (is-good (rowForm (k + 15)) (drop at s) (read .0) is)
 
     pub rows-next : {row : List ℕ} → x ≡ 0 → row ≡ map narrowOf (fourOf values) → RowsRead ranges from s (set array k row) (line + 1) (at + (e + 1)) (k + 1) (getD values 4 0)
     rows-next {row} h narrow =
         let four = fourOf values in
-        let g = is-good (rowOf (k + 15)) (drop at s) (read .0) is in
+        let g = is-good (rowForm (k + 15)) (drop at s) (read .0) is in
         let long = length-append (i .rows) (four ∷ []) in
         let stored : take (k + 1) (set array k row) ≡ take k array ++ row ∷ [] = rw (add-one k) (take-suc-set array k row (omega (arith, i .size))) in
         let older : k + 1 + 15 ≡ dueAge (i .rows) + 1 = omega (arith, i .many) in

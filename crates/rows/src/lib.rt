@@ -16,14 +16,14 @@ ghost use Rattle.fields.specs.Values.{lineOf};
 ghost use Rattle.acceptance.specs.Rules.{firstOf};
 ghost use Rattle.acceptance.specs.Acceptance.{rowRules, rowNumbers};
 ghost use Rattle.walk.specs.Outcome.{settled};
-ghost use Rattle.walk.specs.Lines.{rowOf};
+ghost use Rattle.walk.specs.Lines.{rowForm};
 ghost use Rattle.rows.specs.Narrow.{fourOf, RowHeld, narrowOf};
 ghost use Rattle.rows.specs.Stretch.{RowsAre};
 
 // The line of an age's row. Where its form is right its age and its four numbers are written to `values`.
 fn row_line(s: &[u8], age: u64, values: &mut Read) -> Line
-    ensures { λ r. ⌜ r ≡ lineOf (rowOf age) (now (s .entry)) ⌝ }
-    ensures { λ r. ⌜ ((e : ℕ) → r ≡ Good e → RowHeld (rowOf age (uptoOf 10 (now (s .entry)))) (now (values .exit))) ⌝ }
+    ensures { λ r. ⌜ r ≡ lineOf (rowForm age) (now (s .entry)) ⌝ }
+    ensures { λ r. ⌜ ((e : ℕ) → r ≡ Good e → RowHeld (rowForm age (uptoOf 10 (now (s .entry)))) (now (values .exit))) ⌝ }
 {
     match keyed_line(s, b"row=", 4, false, values) {
         Line::Good(e) => {

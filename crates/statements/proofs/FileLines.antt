@@ -17,7 +17,7 @@ use Rattle.plan.specs.declared.Member.{Member}
 use Rattle.acceptance.specs.Refusals.{tooLarge, wrongCount}
 use Rattle.walk.specs.Outcome.{values, refusal}
 use Rattle.walk.specs.Lines.{Tail, person, end, surplus, neither, personMade, mostMembers, tailOf}
-use Rattle.walk.specs.Step.{Head, State, heading, table, people, ended, wrong, right, tailLine, lineOf, step}
+use Rattle.walk.specs.Step.{Head, State, heading, table, people, ended, wrong, right, tailLine, verdictOf, step}
 use Rattle.walk.specs.Walk.{Case, caseOf, closed, start, walkFrom, walkOf}
 use Rattle.walk.specs.Kept.{nobody}
 use Rattle.walk.proofs.OutcomeLaws.{no-values, values-one, then-values}
@@ -50,7 +50,7 @@ line-of-member j s =
 record Goes (k : ℕ) (state : State) (s : List ℕ) (c : Case) : Type 0 where
   range : ℕ
   next : State
-  line : lineOf state (uptoOf 10 s) [] ≡ right range next
+  line : verdictOf state (uptoOf 10 s) [] ≡ right range next
   on : walkFrom true (k + 1) next (pastOf 10 s) ≡ values c
 
 goes : (k : ℕ) (state : State) (s : List ℕ) (c : Case) → (closed k s state ≡ values c → ⊥) → walkFrom true k state s ≡ values c → Goes k state s c
@@ -66,7 +66,7 @@ goes k state s c due e = pick (hasOf 10 s) refl
 
 -- after the end nothing is left
 done : (k : ℕ) (h : Head) (l : List Member) (s : List ℕ) (c : Case) → walkFrom true k (ended h l) s ≡ values c → (s ≡ []) × (c ≡ caseOf h l)
-unfolding step lineOf
+unfolding step verdictOf
 done k h l s c e = pick (hasOf 10 s) refl
   where
     bare : (s : List ℕ) → closed k s (ended h l) ≡ values c → (s ≡ []) × (c ≡ caseOf h l)
@@ -149,7 +149,7 @@ module _ (c : Case) (h : Head) (before : List Member) (s : List ℕ) where
 
 -- from the members on, with room for n more
 members-lined : (n k : ℕ) (c : Case) (h : Head) (before : List Member) (s : List ℕ) → length before + n ≡ mostMembers → walkFrom true k (people h before) s ≡ values c → Lined c h before s
-unfolding lineOf
+unfolding verdictOf
 members-lined zero k c h before s room e =
     let g = goes k (people h before) s c (λ e. no-values e) e in
     let full = le-leb mostMembers (length before) (omega arith) in

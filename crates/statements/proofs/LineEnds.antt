@@ -14,7 +14,7 @@ use Rattle.fields.proofs.SplitLaws.{lacks, lacks-both, after, here}
 use Rattle.plan.specs.declared.Plan.{Plan}
 use Rattle.plan.specs.declared.Member.{Member}
 use Rattle.walk.specs.Kept.{nobody}
-use Rattle.printing.specs.Amounts.{digits, whole, amount}
+use Rattle.printing.specs.Amounts.{digits, wholeNumber, amount}
 use Rattle.printing.specs.Lines.{fields, amountsLine}
 use Rattle.report.specs.Lines.{figuresLine, memberLine, memberLines}
 use Rattle.statements.specs.LinesOf.{linesPast}
@@ -27,10 +27,10 @@ plain-digits (suc w) n =
     lacks-both 10 (digits w (n / 10)) ((48 + n % 10) ∷ []) (plain-digits w (n / 10)) (simp (ne-eqb (48 + n % 10) 10 (λ e. omega arith)))
 
 plain-fields : (amounts : List ℕ) → lacks 10 (fields amounts) ≡ true
-unfolding fields amount whole
+unfolding fields amount wholeNumber
 plain-fields [] = refl
 plain-fields (cents ∷ more) =
-    lacks-both 10 (amount cents) (fields more) (lacks-both 10 (whole (cents / 100)) (46 ∷ digits 2 cents) (plain-digits _ (cents / 100)) (plain-digits 2 cents)) (plain-fields more)
+    lacks-both 10 (amount cents) (fields more) (lacks-both 10 (wholeNumber (cents / 100)) (46 ∷ digits 2 cents) (plain-digits _ (cents / 100)) (plain-digits 2 cents)) (plain-fields more)
 
 -- ---- lines
 pub record Line (l : List ℕ) : Type 0 where
@@ -39,11 +39,11 @@ pub record Line (l : List ℕ) : Type 0 where
   pub is : l ≡ text ++ (10 ∷ [])
 
 amounts-line : (key : List ℕ) (n : ℕ) (amounts : List ℕ) → lacks 10 key ≡ true → Line (amountsLine key n amounts)
-unfolding amountsLine whole
+unfolding amountsLine wholeNumber
 amounts-line key n amounts plain =
     record {
-      text = key ++ whole n ++ fields amounts;
-      plain = lacks-both 10 (key ++ whole n) (fields amounts) (lacks-both 10 key (whole n) plain (plain-digits _ n)) (plain-fields amounts);
+      text = key ++ wholeNumber n ++ fields amounts;
+      plain = lacks-both 10 (key ++ wholeNumber n) (fields amounts) (lacks-both 10 key (wholeNumber n) plain (plain-digits _ n)) (plain-fields amounts);
       is = refl;
     }
 

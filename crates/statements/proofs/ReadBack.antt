@@ -9,20 +9,20 @@ use lib.Dec.{ltb}
 use lib.ListN.{length, getD, length-append, List·getD-append}
 use borrow.Author.Tests.{ltb-true, ltb-false, le-leb, ne-eqb}
 use Rattle.fields.specs.Split.{hasOf, uptoOf, pastOf}
-use Rattle.fields.specs.Numbers.{value, digits as allDigits, number, wholeForm, digitsOf, wholeOf, amountOf}
+use Rattle.fields.specs.Numbers.{value, allDigits as allDigits, number, wholeForm, digitsOf, wholeOf, amountOf}
 use Rattle.fields.proofs.SplitLaws.{and-false, after, here}
 use Rattle.fields.proofs.FieldLaws.{is-digit, digits-both, number-more, lacks-digits}
-use Rattle.printing.specs.Amounts.{digits, whole, amount}
+use Rattle.printing.specs.Amounts.{digits, wholeNumber, amount}
 use Rattle.printing.proofs.AmountLaws.{width-one, width-more}
 use Rattle.statements.specs.Statements.{Wholes-Read-Back, Amounts-Read-Back}
 
 -- ---- whole numbers, a digit at a time
-whole-one : (n : ℕ) → n < 10 → whole n ≡ (48 + n) ∷ []
-unfolding whole digits
+whole-one : (n : ℕ) → n < 10 → wholeNumber n ≡ (48 + n) ∷ []
+unfolding wholeNumber digits
 whole-one n h = let e : n % 10 ≡ n = omega arith in rw (width-one n h, e)
 
-whole-more : (n : ℕ) → 10 ≤ n → whole n ≡ whole (n / 10) ++ ((48 + n % 10) ∷ [])
-unfolding whole digits
+whole-more : (n : ℕ) → 10 ≤ n → wholeNumber n ≡ wholeNumber (n / 10) ++ ((48 + n % 10) ∷ [])
+unfolding wholeNumber digits
 whole-more n h = rw (width-more n h)
 
 -- that s writes n, in w digits and one at most
@@ -33,7 +33,7 @@ record Writes (w n : ℕ) (s : List ℕ) : Type 0 where
   reads : number 0 s ≡ n
   first : 0 < n → getD s 0 0 ≡ 48 → ⊥
 
-writes-one : (w n : ℕ) → n < 10 → Writes w n (whole n)
+writes-one : (w n : ℕ) → n < 10 → Writes w n (wholeNumber n)
 writes-one w n h =
     rw (whole-one n h)
     (record {
@@ -44,9 +44,9 @@ writes-one w n h =
       first = λ some e. omega arith;
     })
 
-writes-more : (w n : ℕ) → 10 ≤ n → Writes w (n / 10) (whole (n / 10)) → Writes (suc w) n (whole n)
+writes-more : (w n : ℕ) → 10 ≤ n → Writes w (n / 10) (wholeNumber (n / 10)) → Writes (suc w) n (wholeNumber n)
 writes-more w n h less =
-    let s = whole (n / 10) in
+    let s = wholeNumber (n / 10) in
     let b = 48 + n % 10 in
     let long = length-append s (b ∷ []) in
     let begins : getD (s ++ (b ∷ [])) 0 0 ≡ getD s 0 0 = List·getD-append s (b ∷ []) 0 0 (less .some) in
@@ -59,23 +59,23 @@ writes-more w n h less =
       first = λ some e. less .first (omega arith) (sym begins ∙ e);
     })
 
-writes : (w n : ℕ) → n < 10 ^ suc w → Writes w n (whole n)
+writes : (w n : ℕ) → n < 10 ^ suc w → Writes w n (wholeNumber n)
 writes zero n h = writes-one zero n (omega arith)
 writes (suc w) n h = let tens = pow-suc 10 (suc w) in pick (ltb n 10) refl (writes w (n / 10) (omega arith))
   where
-    pick : (t : Bool) → ltb n 10 ≡ t → Writes w (n / 10) (whole (n / 10)) → Writes (suc w) n (whole n)
+    pick : (t : Bool) → ltb n 10 ≡ t → Writes w (n / 10) (wholeNumber (n / 10)) → Writes (suc w) n (wholeNumber n)
     pick true e less = writes-one (suc w) n (ltb-true n 10 e)
     pick false e less = writes-more w n (ltb-false n 10 e) less
 
 -- ---- whole numbers
-form : (n : ℕ) → n < 1000000000000 → wholeForm (whole n) ≡ true
+form : (n : ℕ) → n < 1000000000000 → wholeForm (wholeNumber n) ≡ true
 form n h = pick (ltb n 10) refl
   where
-    pick : (t : Bool) → ltb n 10 ≡ t → wholeForm (whole n) ≡ true
+    pick : (t : Bool) → ltb n 10 ≡ t → wholeForm (wholeNumber n) ≡ true
     pick true e = rw (whole-one n (ltb-true n 10 e))
     pick false e =
         let is = writes 11 n h in
-        simp (le-leb 1 (length (whole n)) (is .some), le-leb (length (whole n)) 12 (is .most), ne-eqb (getD (whole n) 0 0) 48 (is .first (omega (arith, ltb-false n 10 e)))) (ap not (and-false (ltb 1 (length (whole n)))))
+        simp (le-leb 1 (length (wholeNumber n)) (is .some), le-leb (length (wholeNumber n)) 12 (is .most), ne-eqb (getD (wholeNumber n) 0 0) 48 (is .first (omega (arith, ltb-false n 10 e)))) (ap not (and-false (ltb 1 (length (wholeNumber n)))))
 
 pub wholes-read-back : Wholes-Read-Back
 unfolding wholeOf digitsOf
@@ -93,7 +93,7 @@ two-digits cents =
 pub amounts-read-back : Amounts-Read-Back
 unfolding amount digits amountOf
 amounts-read-back cents h =
-    let t = whole (cents / 100) in
+    let t = wholeNumber (cents / 100) in
     let u = digits 2 cents in
     let f = after 46 t (46 ∷ u) (lacks-digits 46 t (omega arith) (writes 11 (cents / 100) (omega arith) .all)) in
     let g = here 46 u in

@@ -8,7 +8,7 @@ use lib.Dec.{leb}
 use lib.ListN.{length, getD}
 use Rattle.acceptance.proofs.Facts.{plan-facts, member-facts}
 use Rattle.costs.specs.Demand3.{WithinLimits}
-use Rattle.costs.specs.Valuation.{methodOf, caseOf, figuresAt, figures}
+use Rattle.costs.specs.Valuation.{methodOf, settingOf, figuresAt, figures}
 use Rattle.costs.proofs.Answers.{valued, limited, demand-3-forms, demand-3-sharp-limits}
 use Rattle.walk.specs.Outcome.{values, refusal}
 use Rattle.walk.specs.Walk.{Case}
@@ -48,7 +48,7 @@ module _ (s : List ℕ) (room : ℕ) (c : Case) {out : List ℕ} (accepted : acc
       rw (past, printed-of s room c accepted fits) (member-text (c .plan) (c .rows) (c .members) _ j there)
 
 -- each member's figures lie within its limits
-member-close : (s : List ℕ) (c : Case) → acceptingOf s ≡ values c → (j : ℕ) → j < length (c .members) → WithinLimits (caseOf (c .plan) (c .rows) (getD (c .members) j nobody)) (methodOf (c .plan .method)) (getD (c .members) j nobody .age)
+member-close : (s : List ℕ) (c : Case) → acceptingOf s ≡ values c → (j : ℕ) → j < length (c .members) → WithinLimits (settingOf (c .plan) (c .rows) (getD (c .members) j nobody)) (methodOf (c .plan .method)) (getD (c .members) j nobody .age)
 unfolding acceptingOf
 member-close s c accepted j there =
     let m = getD (c .members) j nobody in

@@ -19,7 +19,7 @@ use Rattle.costs.specs.Costs.{PV, cost, N, L}
 use Rattle.costs.specs.Valuation.{methodOf, figuresAt, figures}
 use Rattle.costs.specs.Figures.{short-plan, short-member, figures as member-figures}
 use Rattle.fields.specs.Text.{bytes}
-use Rattle.printing.specs.Amounts.{digits, width, whole as wholeText, amount, signedAmount}
+use Rattle.printing.specs.Amounts.{digits, width, wholeNumber as wholeText, amount, signedAmount}
 use Rattle.printing.specs.Lines.{fields, amountsLine, signedLine}
 use Rattle.totals.specs.Totals.{total, unfunded, supplemental}
 use Rattle.report.specs.Lines.{figuresLine, totalLine, planLines, memberLine, memberLines, printed}

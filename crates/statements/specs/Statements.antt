@@ -17,7 +17,7 @@ use Rattle.costs.specs.declared.Figures.{Figures}
 use Rattle.costs.specs.declared.Valuation.the-variants.{Valued}
 use Rattle.costs.specs.Costs.{PV*, N*, L*}
 use Rattle.costs.specs.Demand3.{FormsAgree, V-limit, N-limit, L-limit, WithinLimits}
-use Rattle.costs.specs.Valuation.{methodOf, caseOf, figures, valuation, Limited}
+use Rattle.costs.specs.Valuation.{methodOf, settingOf, figures, valuation, Limited}
 use Rattle.fields.specs.Text.{bytes}
 use Rattle.fields.specs.Split.{startsOf}
 use Rattle.fields.specs.Numbers.{value, wholeOf, amountOf}
@@ -26,7 +26,7 @@ use Rattle.walk.specs.Lines.{person, end, tailOf}
 use Rattle.walk.specs.Walk.{Case}
 use Rattle.walk.specs.Kept.{nobody}
 use Rattle.casefile.specs.Answers.{acceptingOf}
-use Rattle.printing.specs.Amounts.{amount, whole as wholeNumber}
+use Rattle.printing.specs.Amounts.{amount, wholeNumber as wholeNumber}
 use Rattle.printing.specs.Lines.{signedLine}
 use Rattle.totals.specs.Totals.{total, total*, totals, unfunded, supplemental}
 use Rattle.report.specs.Lines.{figuresLine, totalLine}
@@ -43,9 +43,9 @@ pub record MemberPrinted (c : Case) (m : Member) (line : List ℕ) : Type 0 wher
   -- rule 10.9: N and L lie within 15 cents of their exact fractions, N of CP within 15 × W(x) / W(y)
   pub limited : Limited (c .plan) (c .rows) m (Valued (figures (c .plan) (c .rows) m))
   -- the limits by the benefit, which are sharper, and V's
-  pub close : WithinLimits (caseOf (c .plan) (c .rows) m) (methodOf (c .plan .method)) (m .age)
+  pub close : WithinLimits (settingOf (c .plan) (c .rows) m) (methodOf (c .plan .method)) (m .age)
   -- rule 10.8: the two forms of the liability are equal fractions, at each age of the member and by each method
-  pub forms : (method : Method) (k : ℕ) → m .entry ≤ k → k ≤ c .plan .retire → FormsAgree (caseOf (c .plan) (c .rows) m) method k
+  pub forms : (method : Method) (k : ℕ) → m .entry ≤ k → k ≤ c .plan .retire → FormsAgree (settingOf (c .plan) (c .rows) m) method k
 
 -- rule 13.2, of every member, in its place: the members' lines stand first
 abbrev pub Every-Member : Type 0
@@ -102,14 +102,14 @@ Totals-Are-Sums = (p : Plan) (rows : List (List ℕ)) (figure : Figures → ℕ)
 -- each total lies within the sum of its members' limits of the sum of the exact fractions
 pub record TotalsClose (p : Plan) (rows : List (List ℕ)) (members : List Member) : Type 0 where
   pub value :
-      Within (total* (λ m. V-limit (caseOf p rows m)) members) (totals p rows members .value)
-      (total* (λ m. PV* (caseOf p rows m) (m .age)) members)
+      Within (total* (λ m. V-limit (settingOf p rows m)) members) (totals p rows members .value)
+      (total* (λ m. PV* (settingOf p rows m) (m .age)) members)
   pub cost :
-      Within (total* (λ m. N-limit (caseOf p rows m) (methodOf (p .method)) (m .age)) members) (totals p rows members .cost)
-      (total* (λ m. N* (caseOf p rows m) (methodOf (p .method)) (m .age)) members)
+      Within (total* (λ m. N-limit (settingOf p rows m) (methodOf (p .method)) (m .age)) members) (totals p rows members .cost)
+      (total* (λ m. N* (settingOf p rows m) (methodOf (p .method)) (m .age)) members)
   pub liability :
-      Within (total* (λ m. L-limit (caseOf p rows m) (methodOf (p .method))) members) (totals p rows members .liability)
-      (total* (λ m. L* (caseOf p rows m) (methodOf (p .method)) (m .age)) members)
+      Within (total* (λ m. L-limit (settingOf p rows m) (methodOf (p .method))) members) (totals p rows members .liability)
+      (total* (λ m. L* (settingOf p rows m) (methodOf (p .method)) (m .age)) members)
 
 abbrev pub Totals-Accuracy : Type 0
 Totals-Accuracy = (s : List ℕ) (c : Case) → acceptingOf s ≡ values c → TotalsClose (c .plan) (c .rows) (c .members)

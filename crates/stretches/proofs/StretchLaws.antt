@@ -11,7 +11,7 @@ use borrow.Author.Tests.{eq-eqb, ne-eqb}
 use Rattle.fields.specs.Split.{hasOf, uptoOf, pastOf}
 use Rattle.fields.proofs.AnswerLaws.{GoodLine}
 use Rattle.walk.specs.Outcome.{refusal, settled}
-use Rattle.walk.specs.Step.{State, Line, wrong, right, lineOf, step}
+use Rattle.walk.specs.Step.{State, Verdict, wrong, right, verdictOf, step}
 use Rattle.walk.specs.Walk.{closed, walkFrom}
 use Rattle.walk.proofs.OutcomeLaws.{settled-none}
 use Rattle.walk.proofs.LineLaws.{from-line, from-end}
@@ -21,8 +21,8 @@ module _ (ranges : Bool) (k : ℕ) (state : State) (s : List ℕ) where
   line-cut none = from-end ranges k state s none
 
   module _ (has : hasOf 10 s ≡ true) where
-    abbrev here : Line
-    here = lineOf state (uptoOf 10 s) (uptoOf 10 (pastOf 10 s))
+    abbrev here : Verdict
+    here = verdictOf state (uptoOf 10 s) (uptoOf 10 (pastOf 10 s))
 
     pub line-wrong : {n : ℕ} → here ≡ wrong 0 n → walkFrom ranges k state s ≡ refusal n k
     unfolding step

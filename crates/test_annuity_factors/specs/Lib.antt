@@ -1,1 +1,1 @@
-pub mod Case
+pub mod Question

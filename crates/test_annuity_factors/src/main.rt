@@ -7,7 +7,7 @@ use libc::STDOUT_FILENO;
 ghost use mathlib.Core.Bool.{true};
 ghost use mathlib.Core.Path.{_≡_};
 ghost use Prim.Native.Nat.{_+_, _≤_, _<_};
-ghost use Rattle.test_annuity_factors.specs.Case.{Case};
+ghost use Rattle.test_annuity_factors.specs.Question.{Question};
 
 // How many bytes a case has.
 const SIZE: usize = 1701;
@@ -50,7 +50,7 @@ fn write(rows: [[u32; 4]; 106], i: u64, r: usize, e: usize, m: u64) {
 }
 
 fn is_case(rows: [[u32; 4]; 106], i: u64, r: usize, e: usize, m: u64) -> bool
-    ensures { λ t. ⌜ (t ≡ true → Case rows i r e m) ⌝ }
+    ensures { λ t. ⌜ (t ≡ true → Question rows i r e m) ⌝ }
 {
     if i > 2000 || m > 40 || r < 15 || r > 120 || e < 15 || e > 120 {
         return false;
@@ -59,7 +59,7 @@ fn is_case(rows: [[u32; 4]; 106], i: u64, r: usize, e: usize, m: u64) -> bool
 }
 
 fn factors(rows: [[u32; 4]; 106], i: u64, r: usize, e: usize, m: u64)
-    requires { ⌜ Case rows i r e m ⌝ }
+    requires { ⌜ Question rows i r e m ⌝ }
 {
     line(b"A", annuity::life_annuity(rows, r, i), 120);
     line(b"G", annuity::deferred_annuity(rows, r, i), r);

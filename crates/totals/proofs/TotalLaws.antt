@@ -12,7 +12,7 @@ use lib.ListN.{length, set}
 use lib.Seq.{getD-set-same, getD-set-other}
 use lib.IntN.{ℤ, pos, negsuc, _-ℤ_}
 use Rattle.rounding.specs.Nearest.{nearest}
-use Rattle.rounding.specs.Signed.{integer, signed}
+use Rattle.rounding.specs.Signed.{integerOf, signed}
 use Rattle.rounding.proofs.NearestLaws.{nearest-shrinks}
 use Rattle.annuity.specs.Factors.{S, C}
 use Rattle.annuity.proofs.Sizes.{C-least}
@@ -23,14 +23,14 @@ use Rattle.costs.specs.Valuation.{figures}
 use Rattle.costs.proofs.FigureSizes.{figures-small}
 use Rattle.members.specs.Stored.{memberAt}
 use Rattle.totals.specs.Totals.{total, totals}
-use Rattle.totals.specs.Worked.{AcceptedMembers, figuresFrom, figuresIn, membersIn, Worked, sumIn, sumsIn, Small, SmallIn}
+use Rattle.totals.specs.Worked.{AcceptedMembers, figuresStored, figuresIn, membersIn, AreWorked, sumIn, sumsIn, Small, SmallIn}
 
 -- ---- the array of figures: one member more
-pub worked-next : (p : Plan) (rows members worked : List (List ℕ)) (j : ℕ) (f : List ℕ) → Worked p rows members worked j → figuresFrom f ≡ figures p rows (memberAt members j) → j < length worked → Worked p rows members (set worked j f) (j + 1)
+pub worked-next : (p : Plan) (rows members worked : List (List ℕ)) (j : ℕ) (f : List ℕ) → AreWorked p rows members worked j → figuresStored f ≡ figures p rows (memberAt members j) → j < length worked → AreWorked p rows members (set worked j f) (j + 1)
 worked-next p rows members worked j f so-far is fits i h =
     ⊎-elim
-    (λ (here : i ≡ j). rw here (ap figuresFrom (getD-set-same worked j f [] fits) ∙ is))
-    (λ (past : i < j). ap figuresFrom (getD-set-other worked j i f [] (λ e. omega arith)) ∙ so-far i past)
+    (λ (here : i ≡ j). rw here (ap figuresStored (getD-set-same worked j f [] fits) ∙ is))
+    (λ (past : i < j). ap figuresStored (getD-set-other worked j i f [] (λ e. omega arith)) ∙ so-far i past)
     (eq-or-lt-of-le (omega arith))
 
 -- ---- the sums
@@ -45,14 +45,14 @@ module _ (p : Plan) (rows : List (List ℕ)) (figure : Figures → ℕ) where
   total-one m = omega arith
 
   -- the sum over the array is the total of the members
-  sum-total : (members worked : List (List ℕ)) (n : ℕ) → Worked p rows members worked n → sumIn figure worked n ≡ total p rows figure (membersIn members n)
+  sum-total : (members worked : List (List ℕ)) (n : ℕ) → AreWorked p rows members worked n → sumIn figure worked n ≡ total p rows figure (membersIn members n)
   unfolding sumIn membersIn total
   sum-total members worked zero all = refl
   sum-total members worked (suc n) all =
       rw (sum-total members worked n (λ j h. all j (omega arith)), all n (omega arith))
       (sym (rw (total-one (memberAt members n)) at (total-both (membersIn members n) (memberAt members n ∷ []))))
 
-pub sums-totals : (p : Plan) (rows members worked : List (List ℕ)) (n : ℕ) → Worked p rows members worked n → sumsIn worked n ≡ totals p rows (membersIn members n)
+pub sums-totals : (p : Plan) (rows members worked : List (List ℕ)) (n : ℕ) → AreWorked p rows members worked n → sumsIn worked n ≡ totals p rows (membersIn members n)
 sums-totals p rows members worked n all =
     let value = sum-total p rows (λ f. f .value) members worked n all in
     let cost = sum-total p rows (λ f. f .cost) members worked n all in
@@ -60,7 +60,7 @@ sums-totals p rows members worked n all =
     λ i. record { value = value i; cost = cost i; liability = liability i }
 
 -- the figures of accepted members are small
-pub worked-small : (p : Plan) (rows members worked : List (List ℕ)) (n : ℕ) → AcceptedMembers p rows members n → Worked p rows members worked n → SmallIn worked n
+pub worked-small : (p : Plan) (rows members worked : List (List ℕ)) (n : ℕ) → AcceptedMembers p rows members n → AreWorked p rows members worked n → SmallIn worked n
 worked-small p rows members worked n a all j h =
     let s = figures-small p rows (memberAt members j) (a .member j h) in
     subst⁻¹ Small (all j h) (omega (arith, s .value), omega (arith, s .cost), omega (arith, s .liability))
@@ -98,8 +98,8 @@ underfunded l zero h = let all : l + 0 ≡ l - 0 = omega arith in rw all
 underfunded l (suc a) h = rw (le-ltb l (suc a) h)
 
 -- an integer is its sign and its size
-pub integer-signed : (z : ℤ) → integer (signed z) ≡ z
-unfolding integer signed
+pub integer-signed : (z : ℤ) → integerOf (signed z) ≡ z
+unfolding integerOf signed
 integer-signed (pos n) = refl
 integer-signed (negsuc n) = refl
 

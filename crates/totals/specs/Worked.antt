@@ -25,15 +25,15 @@ pub record AcceptedMembers (p : Plan) (rows members : List (List ℕ)) (n : ℕ)
   pub member : (j : ℕ) → j < n → AcceptedMember p rows (memberAt members j)
 
 -- the figures at place j
-abbrev pub figuresFrom : List ℕ → Figures
-figuresFrom f = record { benefit = getD f 0 0; value = getD f 1 0; cost = getD f 2 0; liability = getD f 3 0 }
+abbrev pub figuresStored : List ℕ → Figures
+figuresStored f = record { benefit = getD f 0 0; value = getD f 1 0; cost = getD f 2 0; liability = getD f 3 0 }
 
 abbrev pub figuresIn : List (List ℕ) → ℕ → Figures
-figuresIn a j = figuresFrom (getD a j [])
+figuresIn a j = figuresStored (getD a j [])
 
 -- the figures of the first n members stand in the array
-abbrev pub Worked : Plan → (rows members worked : List (List ℕ)) → ℕ → Type 0
-Worked p rows members worked n = (j : ℕ) → j < n → figuresIn worked j ≡ figures p rows (memberAt members j)
+abbrev pub AreWorked : Plan → (rows members worked : List (List ℕ)) → ℕ → Type 0
+AreWorked p rows members worked n = (j : ℕ) → j < n → figuresIn worked j ≡ figures p rows (memberAt members j)
 
 -- rule 11.1: a figure of the first n, summed; and the sums of V, N and L
 unfoldable pub sumIn : (Figures → ℕ) → (worked : List (List ℕ)) → ℕ → ℕ

@@ -12,12 +12,12 @@ ghost use Prim.Native.Nat.{_≤_, _<_};
 ghost use lib.ListN.{length};
 ghost use lib.IntN.{pos, _-ℤ_, _*ℤ_};
 ghost use Rattle.rounding.specs.Nearest.{nearestℤ};
-ghost use Rattle.rounding.specs.Signed.{integer, signed};
+ghost use Rattle.rounding.specs.Signed.{integerOf, signed};
 ghost use Rattle.annuity.specs.Factors.{S as Factors·S, C};
 ghost use Rattle.members.specs.Stored.{memberAt};
 ghost use Rattle.totals.specs.Totals.{totals};
 ghost use Rattle.totals.specs.Worked.{AcceptedMembers, figuresIn, membersIn, sumsIn, SmallIn};
-ghost use Rattle.totals.specs.Worked.{Worked as Worked·Worked};
+ghost use Rattle.totals.specs.Worked.{AreWorked};
 
 // Rule 11.1: the sums of the printed V, N and L, in cents.
 pub struct Totals {
@@ -60,7 +60,7 @@ pub fn figures_at(worked: &Worked, j: usize) -> Figures
 // Works each member's figures into the array, by the plain engine. Past the last member the array is left open.
 fn fill_figures(p: Plan, rows: Rows, members: &Members, count: usize, worked: &mut Worked)
     requires { ⌜ AcceptedMembers p rows (now members) count ⌝ }
-    ensures { λ _. ⌜ Worked·Worked p rows (now (members .entry)) (now (worked .exit)) count ⌝ }
+    ensures { λ _. ⌜ AreWorked p rows (now (members .entry)) (now (worked .exit)) count ⌝ }
 {
     // Written whole first, so that its length is known to the proof.
     *worked = [[0u64; 4]; 1000];
@@ -99,7 +99,7 @@ fn sum_figures(worked: &Worked, count: usize) -> Totals
 pub fn work(p: Plan, rows: Rows, members: &Members, count: usize, worked: &mut Worked) -> Totals
     requires { ⌜ AcceptedMembers p rows (now members) count ⌝ }
     ensures { λ t. ⌜ t ≡ totals p rows (membersIn (now (members .entry)) count) ⌝ }
-    ensures { λ _. ⌜ Worked·Worked p rows (now (members .entry)) (now (worked .exit)) count ⌝ }
+    ensures { λ _. ⌜ AreWorked p rows (now (members .entry)) (now (worked .exit)) count ⌝ }
 {
     fill_figures(p, rows, members, count, worked);
     sum_figures(worked, count)
@@ -125,7 +125,7 @@ pub fn unfunded_of(liability: u64, assets: u64) -> Signed
 // Rule 11.3: the yearly payment that pays the unfunded off in so many years.
 pub fn supplemental_of(unfunded: Signed, interest: u64, years: u64) -> Signed
     requires { ⌜ (interest ≤ 2000) × (1 ≤ years) × (years ≤ 40) ⌝ }
-    ensures { λ z. ⌜ z ≡ signed (nearestℤ (integer unfunded *ℤ pos Factors·S) (C interest years)) ⌝ }
+    ensures { λ z. ⌜ z ≡ signed (nearestℤ (integerOf unfunded *ℤ pos Factors·S) (C interest years)) ⌝ }
 {
     let certain = annuity::certain_annuity(interest, years);
     rounding::signed_mul_div_nearest(unfunded, annuity::S, certain)

@@ -11,7 +11,7 @@ use native.Mathlib.Omega.{arith}
 use native.Mathlib.Nat.{add-zero}
 use Rattle.plan.specs.declared.Member.{Member}
 use Rattle.acceptance.specs.Rules.{firstOf}
-use Rattle.acceptance.specs.Acceptance.{TermRule, termRules, termRule, termsOf, judged, headRules, rowRules, rowNumbers, rowOf as rowIn, weightBefore, rowsRefusal, planRefusal, planFrom}
+use Rattle.acceptance.specs.Acceptance.{TermRule, termRules, termRule, termsOf, ruled, headRules, rowRules, rowNumbers, rowOf as rowIn, weightBefore, rowsRefusal, planRefusal, planFrom}
 use Rattle.acceptance.proofs.Facts.{All-kept, all-kept, kept-all}
 use Rattle.walk.specs.Outcome.{values, refusal}
 use Rattle.walk.specs.Terms.{termForms, termRefusal}
@@ -30,7 +30,7 @@ both a b =
     ((λ e. let k = all-kept (a ∷ b ∷ []) e in (k .0, k .1 .0)), (λ k. kept-all (a ∷ b ∷ []) (k .0, (k .1, tt))))
 
 -- ---- the heading: its terms one by one, and the list of its rules
-each-judged : (rules : List TermRule) (before t : List ℕ) → ((j : ℕ) → termRule (length before + j) ≡ getD rules j (λ b v. 0)) → length t ≤ length rules → EachAfter termRefusal before t ↔ All-kept (judged rules before t)
+each-judged : (rules : List TermRule) (before t : List ℕ) → ((j : ℕ) → termRule (length before + j) ≡ getD rules j (λ b v. 0)) → length t ≤ length rules → EachAfter termRefusal before t ↔ All-kept (ruled rules before t)
 each-judged [] before [] same fits = ((λ k. tt), (λ k. tt))
 each-judged [] before (v ∷ t) same fits = absurd (omega arith)
 each-judged (rule ∷ rules) before [] same fits = ((λ k. tt), (λ k. tt))
@@ -58,7 +58,7 @@ head-kept : (t : List ℕ) → length t ≡ length termForms → Each termRefusa
 unfolding termForms headRules
 head-kept t n =
     let k = each-judged termRules [] t (λ j. let place : 0 + j ≡ j = omega arith in ap termRule place) (omega arith) in
-    subst (λ (u : List ℕ). Each termRefusal t ↔ (firstOf (judged termRules [] u) ≡ 0)) (sym (terms-back t n)) ((λ e. kept-all (judged termRules [] t) (k .0 e)), (λ e. k .1 (all-kept (judged termRules [] t) e)))
+    subst (λ (u : List ℕ). Each termRefusal t ↔ (firstOf (ruled termRules [] u) ≡ 0)) (sym (terms-back t n)) ((λ e. kept-all (ruled termRules [] t) (k .0 e)), (λ e. k .1 (all-kept (ruled termRules [] t) e)))
 
 -- ---- the rows
 weight-same : (before l : List (List ℕ)) → weightBefore (before ++ l) (dueAge before) ≡ weightBefore before (dueAge before)

@@ -12,12 +12,12 @@ use Rattle.fields.specs.Split.{hasOf, uptoOf, pastOf, sameOf}
 use Rattle.fields.specs.Numbers.{digitsOf, wholeOf, amountOf}
 use Rattle.fields.specs.Values.{valuesOf, keyedOf}
 use Rattle.plan.specs.declared.Plan.{Plan}
-use Rattle.plan.specs.Benefit.{formulaOf as formulaCode, exactBenefit, B}
+use Rattle.plan.specs.Benefit.{formulaOf, exactBenefit, B}
 use Rattle.acceptance.specs.Acceptance.{rowRules, fieldRules, benefitRules, memberRefusal}
 use Rattle.walk.specs.Outcome.{Outcome, values, refusal}
-use Rattle.walk.specs.Terms.{formulaOf, methodOf, termForms}
-use Rattle.walk.specs.Lines.{rowOf, person, end, surplus, neither, tailOf}
-use Rattle.walk.specs.Step.{lineOf, step}
+use Rattle.walk.specs.Terms.{formulaWord, methodWord, termForms}
+use Rattle.walk.specs.Lines.{rowForm, person, end, surplus, neither, tailOf}
+use Rattle.walk.specs.Step.{verdictOf, step}
 use Rattle.walk.specs.Walk.{Case, linesOf, restOf, folded, walkFrom, walkOf}
 
 -- ---- a line after the table
@@ -67,7 +67,7 @@ pub record Readings : Type 0 where
   pub tail : walkOf false (shortFile "member=7,63,64,4125.50.75\nend=1\n") ≡ refusal 20 115
 
 pub readings-are : Readings
-unfolding hasOf uptoOf pastOf sameOf digitsOf wholeOf amountOf valuesOf keyedOf formulaOf methodOf termForms rowOf tailOf lineOf step linesOf restOf folded walkFrom walkOf
+unfolding hasOf uptoOf pastOf sameOf digitsOf wholeOf amountOf valuesOf keyedOf formulaWord methodWord termForms rowForm tailOf verdictOf step linesOf restOf folded walkFrom walkOf
 readings-are =
     record {
       empty = refl;
@@ -89,5 +89,5 @@ pub record Acceptances : Type 0 where
   pub range-before-cut : walkOf true (shortFile "member=7,63,66,0.00\nx") ≡ refusal 23 115
 
 pub acceptances-are : Acceptances
-unfolding hasOf uptoOf pastOf sameOf digitsOf wholeOf amountOf valuesOf keyedOf formulaOf methodOf termForms rowOf tailOf lineOf step linesOf restOf folded walkFrom walkOf rowRules fieldRules benefitRules memberRefusal nearest _over_ whole exactBenefit B formulaCode
+unfolding hasOf uptoOf pastOf sameOf digitsOf wholeOf amountOf valuesOf keyedOf formulaWord methodWord termForms rowForm tailOf verdictOf step linesOf restOf folded walkFrom walkOf rowRules fieldRules benefitRules memberRefusal nearest _over_ whole exactBenefit B formulaOf
 acceptances-are = record { worked = refl; alone = refl; range-before-cut = refl }

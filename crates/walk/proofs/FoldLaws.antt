@@ -8,29 +8,29 @@ use lib.ListN.{length}
 use native.Mathlib.Omega.{arith}
 use native.Mathlib.Nat.{add-zero}
 use Rattle.walk.specs.Outcome.{Outcome, values, refusal, andThen, settled}
-use Rattle.walk.specs.Step.{State, Line, wrong, right, lineOf, judged, step}
+use Rattle.walk.specs.Step.{State, Verdict, wrong, right, verdictOf, judged, step}
 use Rattle.walk.specs.Walk.{Case, nextOf, closed, folded}
 use Rattle.walk.specs.Answers.{RangeNumber}
 use Rattle.walk.proofs.OutcomeLaws.{refuses, no-values, values-one, passed, then-values, Only, only-then}
 use Rattle.walk.proofs.LineLaws.{along, along-cons}
 
 -- ---- a step that goes on
-step-on : (ranges : Bool) (k : ℕ) (x : Line) {next : State} → judged ranges k x ≡ values next → (r : ℕ) × (x ≡ right r next) × (settled ranges r ≡ 0)
+step-on : (ranges : Bool) (k : ℕ) (x : Verdict) {next : State} → judged ranges k x ≡ values next → (r : ℕ) × (x ≡ right r next) × (settled ranges r ≡ 0)
 step-on ranges k (wrong r n) e = no-values ((passed (settled ranges r) k (refusal n k) e) .1)
 step-on ranges k (right r next) e =
     let p = passed (settled ranges r) k (values next) e in (r, ap (right r) (values-one (p .1)), p .0)
 
-pub walk-on : (ranges : Bool) (k : ℕ) (state : State) (line ahead : List ℕ) {next : State} → step ranges k state line ahead ≡ values next → (r : ℕ) × (lineOf state line ahead ≡ right r next) × (settled ranges r ≡ 0)
+pub walk-on : (ranges : Bool) (k : ℕ) (state : State) (line ahead : List ℕ) {next : State} → step ranges k state line ahead ≡ values next → (r : ℕ) × (verdictOf state line ahead ≡ right r next) × (settled ranges r ≡ 0)
 unfolding step
-walk-on ranges k state line ahead e = step-on ranges k (lineOf state line ahead) e
+walk-on ranges k state line ahead e = step-on ranges k (verdictOf state line ahead) e
 
 -- a law of a line whose form is right, by what its range rules say and by the state after it
-abbrev pub Right : (ℕ → State → Type 0) → Line → Type 0
+abbrev pub Right : (ℕ → State → Type 0) → Verdict → Type 0
 Right P (wrong r n) = Unit {0}
 Right P (right r next) = P r next
 
 -- ---- which refusals there are: those that a state allows which each line keeps
-module _ (ranges : Bool) (P : ℕ → ℕ → Type 0) (Holds : ℕ → State → Type 0) (keeps : (k : ℕ) (state : State) (line ahead : List ℕ) → Holds k state → Right (λ r next. Holds (k + 1) next) (lineOf state line ahead)) (at-line : (k : ℕ) (state : State) (line ahead : List ℕ) → Holds k state → Only P (step ranges k state line ahead)) (at-end : (k : ℕ) (rest : List ℕ) (state : State) → Holds k state → Only P (closed k rest state)) where
+module _ (ranges : Bool) (P : ℕ → ℕ → Type 0) (Holds : ℕ → State → Type 0) (keeps : (k : ℕ) (state : State) (line ahead : List ℕ) → Holds k state → Right (λ r next. Holds (k + 1) next) (verdictOf state line ahead)) (at-line : (k : ℕ) (state : State) (line ahead : List ℕ) → Holds k state → Only P (step ranges k state line ahead)) (at-end : (k : ℕ) (rest : List ℕ) (state : State) → Holds k state → Only P (closed k rest state)) where
   pub along-only : (rest : List ℕ) (k : ℕ) (state : State) (lines : List (List ℕ)) → Holds k state → Only P (along ranges rest k state lines)
   unfolding folded
   along-only rest k state [] h = rw (add-zero k) (at-end k rest state h)
@@ -52,31 +52,31 @@ abbrev pub NoLater : Outcome Case → Outcome Case → Type 0
 NoLater read accepted = (read ≡ accepted) ⊎ Before read accepted
 
 -- what a range rule says is a range's number; before a wrong form it says nothing
-abbrev pub InOrder : Line → Type 0
+abbrev pub InOrder : Verdict → Type 0
 InOrder (wrong r n) = r ≡ 0
 InOrder (right r next) = (r ≡ 0) ⊎ RangeNumber r
 
 refusing : {r : ℕ} → (suc r ≡ 0) ⊎ RangeNumber (suc r) → RangeNumber (suc r)
 refusing = ⊎-elim (λ e. absurd (omega arith)) (λ n. n)
 
-line-no-later : (k : ℕ) (x : Line) (f g : State → Outcome Case) → InOrder x → ((next : State) → Only (λ n l. k < l) (f next)) → ((next : State) → NoLater (f next) (g next)) → NoLater (andThen (judged false k x) f) (andThen (judged true k x) g)
+line-no-later : (k : ℕ) (x : Verdict) (f g : State → Outcome Case) → InOrder x → ((next : State) → Only (λ n l. k < l) (f next)) → ((next : State) → NoLater (f next) (g next)) → NoLater (andThen (judged false k x) f) (andThen (judged true k x) g)
 line-no-later k (wrong zero n) f g order low on = inl refl
 line-no-later k (wrong (suc r) n) f g order low on = absurd (omega arith)
 line-no-later k (right zero next) f g order low on = on next
 line-no-later k (right (suc r) next) f g order low on =
     inr (record { number = suc r; line = k; is = ap (λ (o : Outcome State). andThen o g) (refuses r k (values next)); range = refusing order; later = low next })
 
-module _ (order : (state : State) (line ahead : List ℕ) → InOrder (lineOf state line ahead)) (low : (rest : List ℕ) (j k : ℕ) (state : State) (lines : List (List ℕ)) → j < k → Only (λ n l. j < l) (along false rest k state lines)) where
+module _ (order : (state : State) (line ahead : List ℕ) → InOrder (verdictOf state line ahead)) (low : (rest : List ℕ) (j k : ℕ) (state : State) (lines : List (List ℕ)) → j < k → Only (λ n l. j < l) (along false rest k state lines)) where
   pub along-no-later : (rest : List ℕ) (k : ℕ) (state : State) (lines : List (List ℕ)) → NoLater (along false rest k state lines) (along true rest k state lines)
   unfolding folded step
   along-no-later rest k state [] = inl refl
   along-no-later rest k state (line ∷ lines) =
       rw (along-cons false rest k state line lines, along-cons true rest k state line lines)
-      (line-no-later k (lineOf state line (nextOf rest lines)) _ _ (order state line (nextOf rest lines))
+      (line-no-later k (verdictOf state line (nextOf rest lines)) _ _ (order state line (nextOf rest lines))
       (λ next. low rest k (k + 1) next lines (omega arith)) (λ next. along-no-later rest (k + 1) next lines))
 
 -- ---- what each line keeps, the lines keep
-module _ (Holds : ℕ → State → Type 0) (keeps : (k : ℕ) (state : State) (line ahead : List ℕ) → Holds k state → Right (λ r next. Holds (k + 1) next) (lineOf state line ahead)) where
+module _ (Holds : ℕ → State → Type 0) (keeps : (k : ℕ) (state : State) (line ahead : List ℕ) → Holds k state → Right (λ r next. Holds (k + 1) next) (verdictOf state line ahead)) where
   pub folded-keeps : (ranges : Bool) (rest : List ℕ) (k : ℕ) (state : State) (lines : List (List ℕ)) {last : State} → folded ranges rest k state lines ≡ values last → Holds k state → Holds (k + length lines) last
   unfolding folded
   folded-keeps ranges rest k state [] e h = rw (add-zero k) (rw (values-one e) at h)
@@ -87,7 +87,7 @@ module _ (Holds : ℕ → State → Type 0) (keeps : (k : ℕ) (state : State) (
       rw place at (folded-keeps ranges rest (k + 1) (s .0) lines (s .2) (rw (p .1) at (keeps k state line (nextOf rest lines) h)))
 
 -- ---- accepting is reading, where every line keeps its ranges
-module _ (Kept : State → Type 0) (law : (state : State) (line ahead : List ℕ) → Right (λ r next. Kept next ↔ (Kept state × (r ≡ 0))) (lineOf state line ahead)) where
+module _ (Kept : State → Type 0) (law : (state : State) (line ahead : List ℕ) → Right (λ r next. Kept next ↔ (Kept state × (r ≡ 0))) (verdictOf state line ahead)) where
   pub accepted-kept : (rest : List ℕ) (k : ℕ) (state : State) (lines : List (List ℕ)) {last : State} → folded true rest k state lines ≡ values last → Kept state → (folded false rest k state lines ≡ values last) × Kept last
   unfolding folded step
   accepted-kept rest k state [] e h = (e, rw (values-one e) at h)

@@ -15,19 +15,19 @@ use Rattle.plan.specs.declared.Member.{Member}
 use Rattle.acceptance.specs.Rules.{unless, firstOf, between}
 use Rattle.plan.specs.Benefit.{B}
 use Rattle.acceptance.specs.Acceptance.{TermRule, termRules, formulaIn, formulaRule, methodRule, rowRules, rowNumbers, weightBefore, fieldRules, benefitRules, memberRefusal}
-use Rattle.walk.specs.Terms.{formulaOf, methodOf, termForms, termForm, termRefusal}
+use Rattle.walk.specs.Terms.{formulaWord, methodWord, termForms, termForm, termRefusal}
 use Rattle.walk.specs.Lines.{dueAge, rowRefusal}
-use Rattle.walk.specs.Answers.{Part, in-heading, in-table, in-members, RangeOf, of-a-term, of-average, of-a-rate, of-death, of-weight, of-id, of-entry, of-age, of-salary, of-benefit}
+use Rattle.walk.specs.Answers.{Section, in-heading, in-table, in-members, RangeOf, of-a-term, of-average, of-a-rate, of-death, of-weight, of-id, of-entry, of-age, of-salary, of-benefit}
 
 -- no refusal, or a range's
-abbrev pub Ranged : Part → ℕ → Type 0
+abbrev pub Ranged : Section → ℕ → Type 0
 Ranged part n = (n ≡ 0) ⊎ RangeOf part n
 
-rule-ranged : {part : Part} (b : Bool) {n : ℕ} → RangeOf part n → Ranged part (unless b n)
+rule-ranged : {part : Section} (b : Bool) {n : ℕ} → RangeOf part n → Ranged part (unless b n)
 rule-ranged true r = inl refl
 rule-ranged false r = inr r
 
-module _ (part : Part) where
+module _ (part : Section) where
   abbrev AllRanged : List ℕ → Type 0
   AllRanged [] = Unit {0}
   AllRanged (a ∷ later) = Ranged part a × AllRanged later
@@ -81,15 +81,15 @@ one-of false rule vs kept on e = on e
 none-of : {A : Type 0} {vs : List ℕ} → misread ≡ found vs → A
 none-of e = let z : _≡_ {A = ℕ} 0 1 = cc in absurd (omega arith)
 
-formula-fits : Fits formulaOf (λ before code. formulaRule code)
-unfolding formulaOf
+formula-fits : Fits formulaWord (λ before code. formulaRule code)
+unfolding formulaWord
 formula-fits line before vs =
     one-of (sameOf (bytes "formula=flat") line) formulaRule vs refl
     (one-of (sameOf (bytes "formula=career") line) formulaRule vs refl
     (one-of (sameOf (bytes "formula=final") line) formulaRule vs refl (λ e. none-of e)))
 
-method-fits : Fits methodOf (λ before code. methodRule code)
-unfolding methodOf
+method-fits : Fits methodWord (λ before code. methodRule code)
+unfolding methodWord
 method-fits line before vs =
     one-of (sameOf (bytes "method=AB") line) methodRule vs refl
     (one-of (sameOf (bytes "method=BD") line) methodRule vs refl

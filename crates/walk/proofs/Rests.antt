@@ -12,7 +12,7 @@ use borrow.Author.Tests.{ltb-false, le-ltb}
 use Rattle.fields.specs.Split.{seekOf, hasOf, uptoOf, pastOf}
 use Rattle.fields.proofs.SplitLaws.{off, lacks-both, lacks-has, has-lacks}
 use Rattle.walk.specs.Outcome.{Outcome, values, refusal, andThen}
-use Rattle.walk.specs.Step.{State, heading, table, people, ended, lineOf, step}
+use Rattle.walk.specs.Step.{State, heading, table, people, ended, verdictOf, step}
 use Rattle.walk.specs.Walk.{Case, linesOf, restOf, closed, start, walkFrom, walkOf}
 use Rattle.walk.specs.Answers.{through, RestsOnLines}
 use Rattle.walk.proofs.OutcomeLaws.{no-values, settled-none}
@@ -69,7 +69,7 @@ then-refused (refusal n l) f g on e = e
 
 -- no line looks at the one after it
 pub any-ahead : (ranges : Bool) (k : ℕ) (state : State) (line a b : List ℕ) → step ranges k state line a ≡ step ranges k state line b
-unfolding lineOf step
+unfolding verdictOf step
 any-ahead ranges k (heading h) line a b = refl
 any-ahead ranges k (table h) line a b = refl
 any-ahead ranges k (people h members) line a b = refl
@@ -85,7 +85,7 @@ module _ (ranges : Bool) (t : List ℕ) where
       pick false h = from-end ranges k state s h ∙ last
 
   closed-more : (state : State) (k : ℕ) (s : List ℕ) {n l : ℕ} → hasOf 10 s ≡ false → closed k s state ≡ refusal n l → (n ≡ 2 → hasOf 10 t ≡ false) → walkFrom ranges k state (s ++ t) ≡ refusal n l
-  unfolding lineOf step
+  unfolding verdictOf step
   closed-more (heading h) k s none e unended = from-end ranges k (heading h) (s ++ t) (none-in s t none (unended (cc))) ∙ e
   closed-more (table h) k s none e unended = from-end ranges k (table h) (s ++ t) (none-in s t none (unended (cc))) ∙ e
   closed-more (people h members) k s none e unended =

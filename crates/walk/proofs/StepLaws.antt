@@ -17,10 +17,10 @@ use Rattle.plan.specs.declared.Member.{Member}
 use Rattle.acceptance.specs.Refusals.{wrongCount}
 use Rattle.acceptance.specs.Acceptance.{planFrom}
 use Rattle.walk.specs.Terms.{termForms, termForm, termRefusal}
-use Rattle.walk.specs.Lines.{rowOf, ages, dueAge, rowRefusal, Tail, person, end, surplus, neither, endMade, mostMembers, tailOf}
-use Rattle.walk.specs.Step.{Head, State, heading, table, people, ended, Line, wrong, right, withTerm, termLine, withRow, rowLine, lastId, personRefusal, tailLine, lineOf}
+use Rattle.walk.specs.Lines.{rowForm, ages, dueAge, rowRefusal, Tail, person, end, surplus, neither, endMade, mostMembers, tailOf}
+use Rattle.walk.specs.Step.{Head, State, heading, table, people, ended, Verdict, wrong, right, withTerm, termLine, withRow, rowLine, lastId, personRefusal, tailLine, verdictOf}
 use Rattle.walk.specs.Kept.{EachAfter, Each, Kept}
-use Rattle.walk.specs.Answers.{Part, in-heading, in-table, in-members, past-end, FormOf, term-form, row-form, count, tail-form, surplus as surplus-form, after-end, of-line}
+use Rattle.walk.specs.Answers.{Section, in-heading, in-table, in-members, past-end, FormOf, term-form, row-form, count, tail-form, surplus as surplus-form, after-end, of-line}
 use Rattle.walk.proofs.RangeLaws.{Ranged, row-ranged, member-ranged, term-ranged}
 use Rattle.walk.proofs.FoldLaws.{Right, InOrder}
 
@@ -32,7 +32,7 @@ each-next rule before (b ∷ l) a =
     ((λ e. let f = h .0 (e .1) in ((e .0, f .0), f .1)), (λ e. (e .0 .0, h .1 (e .0 .1, e .1))))
 
 -- ---- what is due, and at which line
-abbrev pub partOf : State → Part
+abbrev pub partOf : State → Section
 partOf (heading h) = in-heading
 partOf (table h) = in-table
 partOf (people h members) = in-members
@@ -54,7 +54,7 @@ pub record Next (state : State) (r : ℕ) (next : State) : Type 0 where
   pub kept : Kept next ↔ (Kept state × (r ≡ 0))
   pub sized : (k : ℕ) → Sized k state → Sized (k + 1) next
 
-abbrev pub Lawful : State → Line → Type 0
+abbrev pub Lawful : State → Verdict → Type 0
 Lawful state (wrong r n) = (r ≡ 0) × FormOf (partOf state) n
 Lawful state (right r next) = Next state r next
 
@@ -166,10 +166,10 @@ full-none line m e = pick (startsOf (bytes "member=") line) (keyedOf (bytes "end
     pick false x e = end-no-person x e
 
 -- ---- any line
-pub lawful : (state : State) (line ahead : List ℕ) → Lawful state (lineOf state line ahead)
-unfolding lineOf
+pub lawful : (state : State) (line ahead : List ℕ) → Lawful state (verdictOf state line ahead)
+unfolding verdictOf
 lawful (heading h) line ahead = term-lawful h (termForm (length (h .terms)) line) (term-ranged (h .terms) line)
-lawful (table h) line ahead = row-lawful h (rowOf (dueAge (h .rows)) line)
+lawful (table h) line ahead = row-lawful h (rowForm (dueAge (h .rows)) line)
 lawful (people h members) line ahead = tail-lawful h members (tailOf (leb mostMembers (length members)) line) (room (leb mostMembers (length members)) refl)
   where
     room : (b : Bool) → leb mostMembers (length members) ≡ b → (m : Member) → tailOf b line ≡ person m → length members < mostMembers
@@ -178,19 +178,19 @@ lawful (people h members) line ahead = tail-lawful h members (tailOf (leb mostMe
 lawful (ended h members) line ahead = (refl, after-end)
 
 -- ---- the laws that the walk asks for
-of-right : (P : ℕ → State → Type 0) (state : State) (x : Line) → Lawful state x → ((r : ℕ) (next : State) → Next state r next → P r next) → Right P x
+of-right : (P : ℕ → State → Type 0) (state : State) (x : Verdict) → Lawful state x → ((r : ℕ) (next : State) → Next state r next → P r next) → Right P x
 of-right P state (wrong r n) h f = tt
 of-right P state (right r next) h f = f r next h
 
-pub line-kept : (state : State) (line ahead : List ℕ) → Right (λ r next. Kept next ↔ (Kept state × (r ≡ 0))) (lineOf state line ahead)
-line-kept state line ahead = of-right (λ r next. Kept next ↔ (Kept state × (r ≡ 0))) state (lineOf state line ahead) (lawful state line ahead) (λ r next n. n .kept)
+pub line-kept : (state : State) (line ahead : List ℕ) → Right (λ r next. Kept next ↔ (Kept state × (r ≡ 0))) (verdictOf state line ahead)
+line-kept state line ahead = of-right (λ r next. Kept next ↔ (Kept state × (r ≡ 0))) state (verdictOf state line ahead) (lawful state line ahead) (λ r next n. n .kept)
 
-pub line-sized : (k : ℕ) (state : State) (line ahead : List ℕ) → Sized k state → Right (λ r next. Sized (k + 1) next) (lineOf state line ahead)
-line-sized k state line ahead s = of-right (λ r next. Sized (k + 1) next) state (lineOf state line ahead) (lawful state line ahead) (λ r next n. n .sized k s)
+pub line-sized : (k : ℕ) (state : State) (line ahead : List ℕ) → Sized k state → Right (λ r next. Sized (k + 1) next) (verdictOf state line ahead)
+line-sized k state line ahead s = of-right (λ r next. Sized (k + 1) next) state (verdictOf state line ahead) (lawful state line ahead) (λ r next n. n .sized k s)
 
-in-order : (state : State) (x : Line) → Lawful state x → InOrder x
+in-order : (state : State) (x : Verdict) → Lawful state x → InOrder x
 in-order state (wrong r n) h = h .0
 in-order state (right r next) h = ⊎-elim inl (λ n. inr (of-line (partOf state) n)) (h .ranged)
 
-pub line-order : (state : State) (line ahead : List ℕ) → InOrder (lineOf state line ahead)
-line-order state line ahead = in-order state (lineOf state line ahead) (lawful state line ahead)
+pub line-order : (state : State) (line ahead : List ℕ) → InOrder (verdictOf state line ahead)
+line-order state line ahead = in-order state (verdictOf state line ahead) (lawful state line ahead)

@@ -11,7 +11,7 @@ use Rattle.fields.proofs.SplitLaws.{off}
 use Rattle.acceptance.specs.Refusals.{bytesAfter}
 use Rattle.walk.specs.Outcome.{Outcome, values, refusal}
 use Rattle.walk.specs.Terms.{termForms}
-use Rattle.walk.specs.Step.{State, heading, table, people, ended, Line, wrong, right, lineOf, judged, step}
+use Rattle.walk.specs.Step.{State, heading, table, people, ended, Verdict, wrong, right, verdictOf, judged, step}
 use Rattle.walk.specs.Walk.{Case, linesOf, restOf, closed, start, walkFrom, walkOf}
 use Rattle.walk.specs.Answers.{FormOf, term-cut, row-cut, tail-cut, after-end, RangeOf, FormNumber, too-large, of-line, LineOf, Placed, no-line, of-form, of-range, RefusalsArePlaced, ReadingGivesForm, ReadingRefuses, AcceptingRefuses}
 use Rattle.walk.proofs.OutcomeLaws.{settled-none, Only}
@@ -21,7 +21,7 @@ use Rattle.walk.proofs.StepLaws.{partOf, Sized, Lawful, lawful, line-si
 
 -- ---- one line by its number: a law over the numbers of its part
 module _ (ranges : Bool) (P : ℕ → ℕ → Type 0) (k : ℕ) (state : State) (form : (n : ℕ) → FormOf (partOf state) n → P n k) where
-  judged-only : (ranges ≡ true → (n : ℕ) → RangeOf (partOf state) n → P n k) → (x : Line) → Lawful state x → Only P (judged ranges k x)
+  judged-only : (ranges ≡ true → (n : ℕ) → RangeOf (partOf state) n → P n k) → (x : Verdict) → Lawful state x → Only P (judged ranges k x)
   judged-only range (wrong r n) h = rw (h .0, settled-none ranges) (form n (h .1))
   judged-only range (right zero next) h = rw (settled-none ranges) tt
   judged-only range (right (suc r) next) h = pick ranges refl (⊎-elim (λ e. absurd (omega arith)) (λ n. n) (h .ranged))
@@ -45,7 +45,7 @@ module _ (ranges : Bool) (P : ℕ → ℕ → Type 0) (k : ℕ) (state : State) 
 
   pub step-only : (ranges ≡ true → (n : ℕ) → RangeOf (partOf state) n → P n k) → (line ahead : List ℕ) → Only P (step ranges k state line ahead)
   unfolding step
-  step-only range line ahead = judged-only range (lineOf state line ahead) (lawful state line ahead)
+  step-only range line ahead = judged-only range (verdictOf state line ahead) (lawful state line ahead)
 
 -- ---- the whole file: its size, and its lines
 short-or-long : (P : Outcome Case → Outcome Case → Type 0) (s : List ℕ) → P (refusal 1 0) (refusal 1 0) → P (walkFrom false 1 start s) (walkFrom true 1 start s) → P (walkOf false s) (walkOf true s)
@@ -56,10 +56,10 @@ short-or-long P s long short = pick (ltb 65536 (length s))
     pick true = long
     pick false = short
 
-any-line : (k : ℕ) (state : State) (line ahead : List ℕ) → Unit {0} → Right (λ r next. Unit {0}) (lineOf state line ahead)
-any-line k state line ahead h = go (lineOf state line ahead)
+any-line : (k : ℕ) (state : State) (line ahead : List ℕ) → Unit {0} → Right (λ r next. Unit {0}) (verdictOf state line ahead)
+any-line k state line ahead h = go (verdictOf state line ahead)
   where
-    go : (x : Line) → Right (λ r next. Unit {0}) x
+    go : (x : Verdict) → Right (λ r next. Unit {0}) x
     go (wrong r n) = tt
     go (right r next) = tt
 
@@ -103,10 +103,10 @@ low ranges rest j k state lines h =
     let P : ℕ → ℕ → Type 0 = λ n l. j < l in
     along-only ranges P (λ k state. j < k) (later-line j) (λ k state line ahead h. step-only ranges P k state (λ n f. h) (λ on n r. h) line ahead) (λ k rest state h. closed-only ranges P k state (λ n f. h) rest) rest k state lines h
   where
-    later-line : (j k : ℕ) (state : State) (line ahead : List ℕ) → j < k → Right (λ r next. j < k + 1) (lineOf state line ahead)
-    later-line j k state line ahead h = go (lineOf state line ahead)
+    later-line : (j k : ℕ) (state : State) (line ahead : List ℕ) → j < k → Right (λ r next. j < k + 1) (verdictOf state line ahead)
+    later-line j k state line ahead h = go (verdictOf state line ahead)
       where
-        go : (x : Line) → Right (λ r next. j < k + 1) x
+        go : (x : Verdict) → Right (λ r next. j < k + 1) x
         go (wrong r n) = tt
         go (right r next) = omega arith
 

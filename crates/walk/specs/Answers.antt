@@ -14,13 +14,13 @@ use Rattle.walk.specs.Walk.{Case, walkOf}
 use Rattle.walk.specs.Kept.{AcceptedCase}
 
 -- ---- the numbers, by the lines that they are for: of form, and of ranges
-pub data Part : Type 0 where
-  in-heading : Part
-  in-table : Part
-  in-members : Part
-  past-end : Part
+pub data Section : Type 0 where
+  in-heading : Section
+  in-table : Section
+  in-members : Section
+  past-end : Section
 
-pub data FormOf : Part → ℕ → Type 0 where
+pub data FormOf : Section → ℕ → Type 0 where
   term-cut : FormOf in-heading cutOff
   term-form : FormOf in-heading planForm
   row-cut : FormOf in-table cutOff
@@ -31,7 +31,7 @@ pub data FormOf : Part → ℕ → Type 0 where
   surplus : FormOf in-members surplusMember
   after-end : FormOf past-end bytesAfter
 
-pub data RangeOf : Part → ℕ → Type 0 where
+pub data RangeOf : Section → ℕ → Type 0 where
   of-a-term : RangeOf in-heading outOfRange
   of-average : RangeOf in-heading wrongAverage
   of-a-rate : RangeOf in-table outOfRange
@@ -46,14 +46,14 @@ pub data RangeOf : Part → ℕ → Type 0 where
 -- rule 5.1: the numbers of form; rule 12.3: those of ranges
 pub data FormNumber : ℕ → Type 0 where
   too-large : FormNumber tooLarge
-  of-line : {n : ℕ} → (part : Part) → FormOf part n → FormNumber n
+  of-line : {n : ℕ} → (part : Section) → FormOf part n → FormNumber n
 
 pub data RangeNumber : ℕ → Type 0 where
-  of-line : {n : ℕ} → (part : Part) → RangeOf part n → RangeNumber n
+  of-line : {n : ℕ} → (part : Section) → RangeOf part n → RangeNumber n
 
 -- ---- which lines a number can have: 0 for the file's size, and else those of its part
 -- rule 1.7: 8 lines of terms, 106 rows, at most 1,000 members and the end
-abbrev pub LineOf : Part → ℕ → Type 0
+abbrev pub LineOf : Section → ℕ → Type 0
 LineOf in-heading l = (1 ≤ l) × (l ≤ length termForms)
 LineOf in-table l = (length termForms < l) × (l ≤ length termForms + ages)
 LineOf in-members l = (length termForms + ages < l) × (l ≤ length termForms + ages + mostMembers + 1)
@@ -61,8 +61,8 @@ LineOf past-end l = (length termForms + ages + 1 < l) × (l ≤ length termForms
 
 pub data Placed : (number line : ℕ) → Type 0 where
   no-line : Placed tooLarge 0
-  of-form : {n l : ℕ} → (part : Part) → FormOf part n → LineOf part l → Placed n l
-  of-range : {n l : ℕ} → (part : Part) → RangeOf part n → LineOf part l → Placed n l
+  of-form : {n l : ℕ} → (part : Section) → FormOf part n → LineOf part l → Placed n l
+  of-range : {n l : ℕ} → (part : Section) → RangeOf part n → LineOf part l → Placed n l
 
 abbrev pub RefusalsArePlaced : Type 0
 RefusalsArePlaced = (ranges : Bool) (s : List ℕ) (n l : ℕ) → walkOf ranges s ≡ refusal n l → Placed n l

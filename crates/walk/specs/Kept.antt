@@ -25,16 +25,16 @@ headIn (table h) = h
 headIn (people h members) = h
 headIn (ended h members) = h
 
-abbrev pub membersIn : State → List Member
-membersIn (heading h) = []
-membersIn (table h) = []
-membersIn (people h members) = members
-membersIn (ended h members) = members
+abbrev pub membersOf : State → List Member
+membersOf (heading h) = []
+membersOf (table h) = []
+membersOf (people h members) = members
+membersOf (ended h members) = members
 
 pub record Kept (state : State) : Type 0 where
   pub terms : Each termRefusal (headIn state .terms)
   pub rows : Each rowRefusal (headIn state .rows)
-  pub members : Each (personRefusal (headIn state)) (membersIn state)
+  pub members : Each (personRefusal (headIn state)) (membersOf state)
 
 -- ---- a case, for those who value it
 -- no member: what stands past the last

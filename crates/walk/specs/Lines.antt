@@ -20,8 +20,8 @@ inTurn age (found []) = misread
 inTurn age misread = misread
 
 -- rule 3.1: row=, the age, the three rates and the weight
-unfoldable pub rowOf : (age : ℕ) → List ℕ → Values
-rowOf age line = inTurn age (keyedOf (bytes "row=") wholeOf 4 line)
+unfoldable pub rowForm : (age : ℕ) → List ℕ → Values
+rowForm age line = inTurn age (keyedOf (bytes "row=") wholeOf 4 line)
 
 -- rule 3.1: a row for each age from 15 to 120, in turn
 abbrev pub ages : ℕ

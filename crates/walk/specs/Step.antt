@@ -10,7 +10,7 @@ use Rattle.acceptance.specs.Refusals.{bytesAfter, wrongCount, planForm, memberF
 use Rattle.acceptance.specs.Acceptance.{memberRefusal, planFrom}
 use Rattle.walk.specs.Outcome.{Outcome, values, refusal, passing, settled}
 use Rattle.walk.specs.Terms.{termForms, termForm, termRefusal}
-use Rattle.walk.specs.Lines.{rowOf, ages, dueAge, rowRefusal, Tail, person, end, surplus, neither, mostMembers, tailOf}
+use Rattle.walk.specs.Lines.{rowForm, ages, dueAge, rowRefusal, Tail, person, end, surplus, neither, mostMembers, tailOf}
 
 -- what the lines before the members hold
 pub record Head : Type 0 where
@@ -26,9 +26,9 @@ pub data State : Type 0 where
 
 -- a line: wrong in its form, by its number, with what its range rules refuse before that; or right, with what its range rules refuse and
 -- the state after it. 0 is no refusal. No rule refuses a range before a form yet
-pub data Line : Type 0 where
-  wrong : (range number : ℕ) → Line
-  right : (range : ℕ) → State → Line
+pub data Verdict : Type 0 where
+  wrong : (range number : ℕ) → Verdict
+  right : (range : ℕ) → State → Verdict
 
 -- ---- rule 2.1, a term: refusal 10, wrong in its form
 abbrev pub withTerm : Head → ℕ → Head
@@ -37,7 +37,7 @@ withTerm h v = record { terms = h .terms ++ v ∷ []; rows = h .rows }
 abbrev pub afterTerm : Head → State
 afterTerm h = cond (eqb (length (h .terms)) (length termForms)) (table h) (heading h)
 
-abbrev pub termLine : Head → Values → Line
+abbrev pub termLine : Head → Values → Verdict
 termLine h misread = wrong 0 planForm
 termLine h (found vs) = right (termRefusal (h .terms) (getD vs 0 0)) (afterTerm (withTerm h (getD vs 0 0)))
 
@@ -48,7 +48,7 @@ withRow h row = record { terms = h .terms; rows = h .rows ++ row ∷ [] }
 abbrev pub afterRow : Head → State
 afterRow h = cond (eqb (length (h .rows)) ages) (people h []) (table h)
 
-abbrev pub rowLine : Head → Values → Line
+abbrev pub rowLine : Head → Values → Verdict
 rowLine h misread = wrong 0 planForm
 rowLine h (found row) = right (rowRefusal (h .rows) row) (afterRow (withRow h row))
 
@@ -62,23 +62,23 @@ lastId (m ∷ n ∷ l) = lastId (n ∷ l)
 abbrev pub personRefusal : Head → (before : List Member) → Member → ℕ
 personRefusal h before m = memberRefusal (planFrom (h .terms)) (h .rows) (lastId before) m
 
-abbrev pub tailLine : Head → (members : List Member) → Tail → Line
+abbrev pub tailLine : Head → (members : List Member) → Tail → Verdict
 tailLine h members (person m) = right (personRefusal h members m) (people h (members ++ m ∷ []))
 tailLine h members (end n) = cond (eqb n (length members)) (right 0 (ended h members)) (wrong 0 wrongCount)
 tailLine h members surplus = wrong 0 surplusMember
 tailLine h members neither = wrong 0 memberForm
 
 -- ---- any line; `ahead` is the line after it, as far as it goes; no rule looks at it yet. Refusal 3: a line after the end
-unfoldable pub lineOf : State → (line ahead : List ℕ) → Line
-lineOf (heading h) line ahead = termLine h (termForm (length (h .terms)) line)
-lineOf (table h) line ahead = rowLine h (rowOf (dueAge (h .rows)) line)
-lineOf (people h members) line ahead = tailLine h members (tailOf (leb mostMembers (length members)) line)
-lineOf (ended h members) line ahead = wrong 0 bytesAfter
+unfoldable pub verdictOf : State → (line ahead : List ℕ) → Verdict
+verdictOf (heading h) line ahead = termLine h (termForm (length (h .terms)) line)
+verdictOf (table h) line ahead = rowLine h (rowForm (dueAge (h .rows)) line)
+verdictOf (people h members) line ahead = tailLine h members (tailOf (leb mostMembers (length members)) line)
+verdictOf (ended h members) line ahead = wrong 0 bytesAfter
 
 -- rules 5.1, 5.2 and 12.4: what line k gives, where the ranges are settled or not
-abbrev pub judged : (ranges : Bool) → (k : ℕ) → Line → Outcome State
+abbrev pub judged : (ranges : Bool) → (k : ℕ) → Verdict → Outcome State
 judged ranges k (wrong range number) = passing (settled ranges range) k (refusal number k)
 judged ranges k (right range next) = passing (settled ranges range) k (values next)
 
 unfoldable pub step : (ranges : Bool) → (k : ℕ) → State → (line ahead : List ℕ) → Outcome State
-step ranges k state line ahead = judged ranges k (lineOf state line ahead)
+step ranges k state line ahead = judged ranges k (verdictOf state line ahead)

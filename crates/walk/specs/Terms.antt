@@ -14,11 +14,11 @@ abbrev pub codedFrom : (code : ℕ) → (words : List (List ℕ)) → List ℕ �
 codedFrom code [] line = misread
 codedFrom code (word ∷ words) line = cond (sameOf word line) (found (code ∷ [])) (codedFrom (code + 1) words line)
 
-unfoldable pub formulaOf : List ℕ → Values
-formulaOf = codedFrom 1 (bytes "formula=flat" ∷ bytes "formula=career" ∷ bytes "formula=final" ∷ [])
+unfoldable pub formulaWord : List ℕ → Values
+formulaWord = codedFrom 1 (bytes "formula=flat" ∷ bytes "formula=career" ∷ bytes "formula=final" ∷ [])
 
-unfoldable pub methodOf : List ℕ → Values
-methodOf =
+unfoldable pub methodWord : List ℕ → Values
+methodWord =
     codedFrom 1 (bytes "method=AB" ∷ bytes "method=BD" ∷ bytes "method=BP" ∷ bytes "method=CD" ∷ bytes "method=CP" ∷ [])
 
 -- rule 2.1, the order of the lines: each holds one value
@@ -26,10 +26,10 @@ unfoldable pub termForms : List (List ℕ → Values)
 termForms =
     keyedOf (bytes "interest=") wholeOf 0
     ∷ keyedOf (bytes "retire=") wholeOf 0
-    ∷ formulaOf
+    ∷ formulaWord
     ∷ keyedOf (bytes "unit=") wholeOf 0
     ∷ keyedOf (bytes "average=") wholeOf 0
-    ∷ methodOf
+    ∷ methodWord
     ∷ keyedOf (bytes "assets=") amountOf 0
     ∷ keyedOf (bytes "years=") wholeOf 0
     ∷ []

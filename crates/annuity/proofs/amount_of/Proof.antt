@@ -1,11 +1,11 @@
 -- `annuity::amount_of` meets its contract.
 use borrow.Author.Needs.{needs}
-use Rattle.annuity.specs.Filled.{amountOf}
+use Rattle.annuity.specs.Filled.{paidOf}
 use Rattle.annuity.proofs.amount_of.Statement.{statement}
 use Rattle.annuity.proofs.amount_of.Tie as tie
 
 pub amount-of-spec : {M : Type 1} → statement M
-unfolding amountOf
+unfolding paidOf
 amount-of-spec =
     tie.close (tie.spec (search needs) (search needs) (search needs) (search needs) (search needs) (search needs)
     (λ c. search needs) (λ c. search needs) (λ c. cc))

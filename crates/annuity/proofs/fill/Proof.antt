@@ -7,7 +7,7 @@ use lib.ListN.{getD}
 use Rattle.rates.specs.Table.{Sound}
 use Rattle.annuity.specs.Basis.{basis}
 use Rattle.annuity.specs.Factors.{step}
-use Rattle.annuity.specs.Filled.{Filled, amountOf, factor}
+use Rattle.annuity.specs.Filled.{Filled, paidOf, factor}
 use Rattle.annuity.proofs.Bases.{basis-fair}
 use Rattle.annuity.proofs.Filling.{filled-first, filled-more, factor-top, factor-before, factor-most, year-by-row}
 use Rattle.annuity.proofs.fill.Statement.{statement}
@@ -48,7 +48,7 @@ stored c =
     let later : getD (l .a) (l .j) 0 ≡ factor b (g .amount) (g .top) (g .start) (k + 1) = rw next at (l .inv .1 .upto (k + 1) (omega arith) (omega arith)) in
     (λ i. c .before .amount-of .ensures i + c .step .ensures i)
     ∙ year-by-row (g .t1) (g .r) (g .i) (g .amount) k (getD (l .a) (l .j) 0) (ap (λ (n : ℕ). getD (g .t1) n []) own)
-    ∙ ap (λ (f : ℕ). amountOf (b .W k) (g .amount) + step b k f) later
+    ∙ ap (λ (f : ℕ). paidOf (b .W k) (g .amount) + step b k f) later
     ∙ sym (factor-before b (g .amount) (g .top) (g .start) k (omega arith))
 
 add-a : tie.Need-add-a Inv-loop μ-loop

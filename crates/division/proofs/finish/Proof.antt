@@ -2,13 +2,13 @@
 use mathlib.Core.Path.{_≡_, refl, sym, _∙_}
 use native.Mathlib.Omega.{arith}
 use Rattle.division.specs.Words.{value}
-use Rattle.division.specs.Division.{whole}
+use Rattle.division.specs.Division.{undivided}
 use Rattle.division.proofs.Reciprocals.{one-word}
 use Rattle.division.proofs.finish.Statement.{statement}
 use Rattle.division.proofs.finish.Tie as tie
 
 abbrev Inv-loop : tie.InvT-loop
-Inv-loop t₀ d v t = whole d t ≡ whole d t₀
+Inv-loop t₀ d v t = undivided d t ≡ undivided d t₀
 
 abbrev μ-loop : tie.MeasureT-loop
 μ-loop t₀ d v t = value (t .left)

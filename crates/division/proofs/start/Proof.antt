@@ -4,15 +4,15 @@ use Prim.Native.Nat.{ℕ}
 use native.Mathlib.Omega.{arith}
 use Rattle.division.specs.declared.words.Wide.{Wide}
 use Rattle.division.specs.Words.{value}
-use Rattle.division.specs.Division.{whole}
+use Rattle.division.specs.Division.{undivided}
 use Rattle.division.proofs.start.Statement.{statement}
 use Rattle.division.proofs.start.Tie as tie
 
-first : (w : Wide) (d : ℕ) → whole d (record { quotient = 0; left = w }) ≡ value w
-unfolding whole
+first : (w : Wide) (d : ℕ) → undivided d (record { quotient = 0; left = w }) ≡ value w
+unfolding undivided
 first w d = omega arith
 
-one : (c : tie.After-step) → whole (c .before .args .d) (c .step .result) ≡ value (c .before .args .w)
+one : (c : tie.After-step) → undivided (c .before .args .d) (c .step .result) ≡ value (c .before .args .w)
 one c = c .step .ensures .same ∙ first (c .before .args .w) (c .before .args .d)
 
 step-requires-2 : tie.Need-step-requires-2

@@ -3,7 +3,7 @@ use mathlib.Core.Path.{_≡_}
 use Prim.Native.Nat.{ℕ, _+_, _*_, _^_, _≤_, _<_}
 use native.Mathlib.Omega.{arith}
 use Rattle.division.specs.Words.{value}
-use Rattle.division.specs.Division.{whole}
+use Rattle.division.specs.Division.{undivided}
 use Rattle.division.proofs.Reciprocals.{taken-le, taken-some, quotient-fits}
 use Rattle.division.proofs.step.Statement.{statement}
 use Rattle.division.proofs.step.Tie as tie
@@ -17,10 +17,10 @@ unfolding times
 taken c = taken-le (c .before .before .pre .0) (c .before .before .args .t .left) (c .product .result) (c .product .ensures)
 
 fits : (c : tie.After-product) → c .before .before .args .t .quotient + times c < 2 ^ 64
-unfolding whole
+unfolding undivided
 fits c =
     let a = c .before .before .args in
-    quotient-fits (a .t .quotient + times c) (a .d) (whole (a .d) (a .t)) (omega (arith, taken c)) (c .before .before .pre .1)
+    quotient-fits (a .t .quotient + times c) (a .d) (undivided (a .d) (a .t)) (omega (arith, taken c)) (c .before .before .pre .1)
 
 same : (q k d r m w : ℕ) → m ≡ k * d → r + m ≡ w → (q + k) * d + r ≡ q * d + w
 same q k d r m w e f = omega arith
@@ -29,7 +29,7 @@ less : (r m w k : ℕ) → m ≡ k → r + m ≡ w → 0 < k → r < w
 less r m w k e f some = omega arith
 
 returns : tie.Need-returns
-unfolding whole times
+unfolding undivided times
 returns c =
     let p = c .before .before .before .before .before in
     let a = p .before .before .args in

@@ -5,14 +5,14 @@ use lib.ListN.{length, length-set}
 use native.Mathlib.Omega.{arith}
 use borrow.Author.Needs.{needs}
 use Rattle.costs.specs.Valuation.{figures}
-use Rattle.totals.specs.Worked.{Worked}
+use Rattle.totals.specs.Worked.{AreWorked}
 use Rattle.totals.proofs.TotalLaws.{worked-next}
 use Rattle.totals.proofs.fill_figures.Statement.{statement}
 use Rattle.totals.proofs.fill_figures.Tie as tie
 
 abbrev Inv-loop : tie.InvT-loop
 Inv-loop p rows members count worked₀ j₀ worked j =
-    (j ≤ count) × (length worked ≡ 1000) × Worked p rows members worked j
+    (j ≤ count) × (length worked ≡ 1000) × AreWorked p rows members worked j
 
 abbrev μ-loop : tie.MeasureT-loop
 μ-loop p rows members count worked₀ j₀ worked j = count - j
@@ -29,7 +29,7 @@ returns c =
     let a = c .before .before .before .args in
     let l = c .before .loop in
     let all : l .j ≡ a .count = omega arith in
-    subst (λ (n : ℕ). Worked (a .p) (a .rows) (a .members .now) (l .worked) n) all (l .inv .2)
+    subst (λ (n : ℕ). AreWorked (a .p) (a .rows) (a .members .now) (l .worked) n) all (l .inv .2)
 
 pub fill-figures-spec : {M : Type 1} → statement M
 fill-figures-spec =

@@ -3,7 +3,7 @@ use mathlib.Core.Path.{_≡_}
 use Prim.Native.Nat.{_-_}
 use native.Mathlib.Omega.{arith}
 use Rattle.plan.specs.Benefit.{B}
-use Rattle.costs.specs.Valuation.{caseOf}
+use Rattle.costs.specs.Valuation.{settingOf}
 use Rattle.costs.proofs.Limits.{B-rises}
 use Rattle.costs.proofs.Needs.{facts, sound}
 use borrow.Author.Needs.{needs}
@@ -18,7 +18,7 @@ sub-result : tie.Need-sub-result
 sub-result c =
     let s = c .before .before .before in
     let a = s .args in
-    rw (earned c, c .accrued-benefit .ensures) (B-rises (caseOf (a .p) (a .rows .now) (a .m)) (sound (a .p) (a .rows .now) (a .m) (s .pre .0)) (s .pre .1) (omega arith) (omega arith))
+    rw (earned c, c .accrued-benefit .ensures) (B-rises (settingOf (a .p) (a .rows .now) (a .m)) (sound (a .p) (a .rows .now) (a .m) (s .pre .0)) (s .pre .1) (omega arith) (omega arith))
 
 weight-requires : tie.Need-weight-requires
 weight-requires c κs =

@@ -4,7 +4,7 @@ use Prim.Native.Nat.{ℕ, _≤_}
 use Rattle.rates.specs.Table.{Table}
 
 -- all that the annuity functions require
-pub record Case (rows : List (List ℕ)) (i r e m : ℕ) : Type 0 where
+pub record Question (rows : List (List ℕ)) (i r e m : ℕ) : Type 0 where
   pub table : Table rows
   pub interest : i ≤ 2000
   pub retire-least : 15 ≤ r

@@ -2,12 +2,12 @@
 use Prim.Native.Nat.{ℕ, _+_, _≤_, _<_}
 use Rattle.annuity.specs.Basis.{Basis, Fair}
 
-pub record Case : Type 0 where
+pub record Setting : Type 0 where
   pub basis : Basis  -- interest, retirement age, staying and weights
   pub B : ℕ → ℕ  -- the accrued benefit at an age, in whole cents
   pub y : ℕ  -- the entry age
 
-pub record Sound (c : Case) : Type 0 where
+pub record SoundSetting (c : Setting) : Type 0 where
   pub fair : Fair (c .basis)
   pub retires : 50 ≤ c .basis .r
   pub in-time : c .basis .r ≤ 75
