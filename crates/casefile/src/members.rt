@@ -1,5 +1,4 @@
 // The lines after the rows, RULES section 4: the members and the end.
-use rates::Rows;
 use fields::lines::Line as Form;
 use fields::lines::Read;
 use fields::lines::keyed_line;
@@ -9,6 +8,7 @@ use fields::text::starts;
 use plan::Member;
 use plan::Members;
 use plan::Plan;
+use rates::Rows;
 ghost use mathlib.Core.Path.{_≡_};
 ghost use mathlib.Core.Bool.{true, false};
 ghost use Prim.Native.Nat.{_+_, _≤_};

@@ -1,12 +1,12 @@
 // The table, RULES section 3: a row for each age from 15 to 120.
 use crate::Part;
-use rates::Rows;
 use fields::lines::Line;
 use fields::lines::Read;
 use fields::lines::keyed_line;
 use fields::text::from as bytes_from;
 use plan::rules::Row;
 use plan::rules::row_rule;
+use rates::Rows;
 ghost use mathlib.Core.Path.{_≡_};
 ghost use Prim.Native.Nat.{ℕ, _≤_};
 ghost use Rattle.fields.specs.declared.lines.Line.the-variants.{Good};

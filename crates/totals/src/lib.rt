@@ -1,11 +1,11 @@
 // The figures of all members and the plan's own: RULES section 11. `work` fills the array of figures and sums them, one
 // after the other; the text is the crate valuation's. specs/Totals.antt has the totals, specs/Worked.antt what the array
 // holds.
-use rates::Rows;
 use costs::Figures;
 use plan::Member;
 use plan::Members;
 use plan::Plan;
+use rates::Rows;
 use rounding::Signed;
 ghost use mathlib.Core.Path.{_≡_};
 ghost use Prim.Native.Nat.{_≤_, _<_};

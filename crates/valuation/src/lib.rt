@@ -5,7 +5,6 @@
 mod lines;
 
 use crate::lines::write_lines;
-use rates::Rows;
 pub use casefile::Accepting;
 pub use casefile::Reading;
 pub use casefile::accept_case;
@@ -20,6 +19,7 @@ pub use plan::acceptance::Acceptance;
 pub use plan::acceptance::accept_member;
 pub use plan::acceptance::accept_plan;
 use printing::lines::write_pair_line;
+use rates::Rows;
 use totals::supplemental_of;
 use totals::unfunded_of;
 use totals::work;
