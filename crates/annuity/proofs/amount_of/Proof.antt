@@ -8,4 +8,4 @@ pub amount-of-spec : {M : Type 1} → statement M
 unfolding paidOf
 amount-of-spec =
     tie.close (tie.spec (search needs) (search needs) (search needs) (search needs) (search needs) (search needs)
-    (λ c. search needs) (λ c. search needs) (λ c. cc))
+    (λ c. search needs) (λ c. search needs) (λ c. rw (c .before .enum-told3 .given .1, c .word .ensures)))

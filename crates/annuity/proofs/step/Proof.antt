@@ -13,4 +13,4 @@ mul-div-nearest-requires c κs =
     omega (arith, step-shrinks (a .f) (c .staying .result) (100 * (10000 + a .i)) (omega arith) p)
 
 pub step-spec : {M : Type 1} → statement M
-step-spec = tie.close (tie.spec (omega arith) (omega arith) (omega arith) mul-div-nearest-requires (λ c. cc))
+step-spec = tie.close (tie.spec (omega arith) (omega arith) (omega arith) mul-div-nearest-requires (λ c. rw (c .before .staying .ensures) at (c .mul-div-nearest .ensures)))

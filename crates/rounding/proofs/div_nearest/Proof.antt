@@ -10,4 +10,4 @@ half-even-requires c κs =
     (c .by-word .ensures .less, rw (c .by-word .ensures .same) (omega (arith, nearest-le (a .n) (a .d) (c .before .pre))))
 
 pub div-nearest-spec : {M : Type 1} → statement M
-div-nearest-spec = tie.close (tie.spec (omega arith) half-even-requires (λ c. cc))
+div-nearest-spec = tie.close (tie.spec (omega arith) half-even-requires (λ c. rw (c .before .by-word .ensures .same) at (c .half-even .ensures)))

@@ -18,4 +18,4 @@ whole c = c .times .ensures ∙ ap (λ (n : ℕ). n * c .before .before .args .c
 
 pub mul-mul-div-nearest-spec : {M : Type 1} → statement M
 mul-mul-div-nearest-spec =
-    tie.close (tie.spec (search) times-requires (λ c κs. rw (whole c) (c .before .before .pre)) (λ c. cc))
+    tie.close (tie.spec (search) times-requires (λ c κs. rw (whole c) (c .before .before .pre)) (λ c. rw (whole (c .before)) at (c .wide-div-nearest .ensures)))

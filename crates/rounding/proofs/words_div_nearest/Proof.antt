@@ -15,4 +15,5 @@ pub words-div-nearest-spec : {M : Type 1} → statement M
 unfolding value
 words-div-nearest-spec =
     tie.close (tie.spec divide-requires
-    (λ c κs. (c .divide .ensures .less, rw (c .divide .ensures .same) (c .before .pre .1))) (λ c. cc))
+    (λ c κs. (c .divide .ensures .less, rw (c .divide .ensures .same) (c .before .pre .1)))
+    (λ c. rw (c .before .divide .ensures .same) at (c .half-even .ensures)))
