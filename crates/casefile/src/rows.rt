@@ -1,7 +1,7 @@
 // The table, RULES section 3: a row for each age from 15 to 120.
 use crate::Part;
-use acceptance::rules::Row;
-use acceptance::rules::row_rule;
+use acceptance::rows::Row;
+use acceptance::rows::row_rule;
 use annuity::Rows;
 use fields::lines::Line;
 use fields::lines::Read;
