@@ -1,17 +1,14 @@
 -- The laws of rules in order.
-use mathlib.Core.Path.{_≡_, refl, sym, ap, _∙_}
-use mathlib.Core.Logic.{⊎-elim}
+use mathlib.Core.Path.{_≡_, refl, sym, _∙_}
 use mathlib.Core.Bool.{cond}
 use mathlib.Core.List.{List, [], _∷_}
 use Prim.Native.Nat.{ℕ, zero, suc, _+_, _-_, _≤_}
-use native.Mathlib.Nat.{eq-or-lt-of-le}
 use native.Mathlib.Omega.{arith}
 use borrow.Author.Tests.{eq-eqb, ne-eqb, lt-ltb}
-use lib.ListN.{List·getD-eq-default}
 use lib.Dec.{eqb}
 use Rattle.rates.specs.Table.{weight}
 use Rattle.acceptance.specs.Rules.{firstOf}
-use Rattle.acceptance.specs.Acceptance.{TermRule, termRules, termRule, rowRules, rowOf, weightBefore, rowsRefusal}
+use Rattle.acceptance.specs.Acceptance.{rowRules, rowOf, weightBefore, rowsRefusal}
 
 -- one rule more, before the others
 pub in-order : {r a b x later : ℕ} → r ≡ cond (eqb a 0) b a → a ≡ x → b ≡ later → r ≡ cond (eqb x 0) later x
@@ -29,6 +26,10 @@ first-passes a later h = simp (eq-eqb a 0 h)
 pub first-alone : (a : ℕ) → firstOf (a ∷ []) ≡ a
 first-alone zero = refl
 first-alone (suc a) = simp (ne-eqb (suc a) 0 (λ e. omega arith))
+
+-- the last rule, after another one
+pub last-in-order : {r a b x y : ℕ} → r ≡ cond (eqb a 0) b a → a ≡ x → b ≡ y → r ≡ firstOf (x ∷ y ∷ [])
+last-in-order {y = y} e f g = in-order e f (g ∙ sym (first-alone y))
 
 -- ---- the rows from age k on
 module _ (rows : List (List ℕ)) (k : ℕ) (there : k ≤ 120) where
@@ -57,10 +58,3 @@ module _ (rows : List (List ℕ)) (k : ℕ) (there : k ≤ 120) where
 pub rows-done : (rows : List (List ℕ)) (k : ℕ) {n : ℕ} → n ≡ 0 → rowsRefusal rows k n ≡ 0
 unfolding rowsRefusal
 rows-done rows k e = rw e
-
--- past the last term there is no rule
-pub past : {n k : ℕ} → n ≤ k → (k ≡ n → ⊥) → n + 1 ≤ k
-past h other = ⊎-elim (λ e. absurd (other (sym e))) (λ l. omega arith) (eq-or-lt-of-le h)
-
-pub no-term : (k : ℕ) (terms : List ℕ) (v : ℕ) → 8 ≤ k → 0 ≡ termRule k terms v
-no-term k terms v h = sym (ap (λ (r : TermRule). r terms v) (List·getD-eq-default termRules (λ b v. 0) h))

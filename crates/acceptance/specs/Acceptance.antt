@@ -7,7 +7,7 @@ use lib.Dec.{leb, ltb, eqb}
 use Rattle.rates.specs.Table.{row, weight}
 use Rattle.plan.specs.declared.Plan.{Plan}
 use Rattle.plan.specs.declared.Member.{Member}
-use Rattle.acceptance.specs.declared.rules.Row.{Row}
+use Rattle.acceptance.specs.declared.rows.Row.{Row}
 use Rattle.acceptance.specs.declared.Acceptance.{Acceptance}
 use Rattle.acceptance.specs.declared.Acceptance.the-variants.{Accepted, Refused}
 use Rattle.acceptance.specs.Refusals.{planForm, outOfRange, wrongAverage, wrongLastDeath, wrongWeight, wrongId, wrongEntry, wrongAge, wrongSalary, highBenefit}

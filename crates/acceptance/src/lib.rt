@@ -1,73 +1,41 @@
 // Accepting a plan, its rows and a member handed in as plain values, rules 5.3 to 5.5: the ranges of RULES sections 2, 3
-// and 4, and rule 7.8, in the order of the lines. A refusal is its number, and 0 is none. rules.rt has the rules of single
-// lines, terms.rt the terms by their places. specs/ has what every contract is an equation with: the refusal numbers in
-// Refusals, what a rule is in Rules, the lists of the rules in Acceptance; and in Rising the law of rule 7.9 for a plan
-// that is accepted.
+// and 4, and rule 7.8, in the order of the lines. A refusal is its number, and 0 is none. refusals.rt has the numbers,
+// rules.rt what a rule is made of, terms.rt and rows.rt the rules of the heading and of the table; a member's are here. specs/
+// has what every contract is an equation with: the numbers in Refusals, what a rule is in Rules, the lists of the rules in
+// Acceptance; and in Rising the law of rule 7.9 for a plan that is accepted.
+pub mod refusals;
+pub mod rows;
 pub mod rules;
 pub mod terms;
 
-use crate::rules::assets_rule;
-use crate::rules::average_rule;
+use crate::refusals::HIGH_BENEFIT;
+use crate::refusals::WRONG_AGE;
+use crate::refusals::WRONG_ENTRY;
+use crate::refusals::WRONG_ID;
+use crate::refusals::WRONG_SALARY;
+use crate::rows::rows_refusal;
 use crate::rules::between;
 use crate::rules::both;
-use crate::rules::formula_rule;
-use crate::rules::interest_rule;
-use crate::rules::method_rule;
 use crate::rules::or_else;
-use crate::rules::retire_rule;
-use crate::rules::row_of;
-use crate::rules::row_rule;
-use crate::rules::unit_rule;
 use crate::rules::unless;
 use crate::rules::unless_between;
-use crate::rules::years_rule;
+use crate::terms::head_refusal;
 use plan::Member;
 use plan::Plan;
 use plan::benefit::accrued_benefit;
 ghost use mathlib.Core.Path.{_≡_};
 ghost use mathlib.Core.Bool.{_&&_};
 ghost use lib.Dec.{leb, ltb};
+ghost use Rattle.acceptance.specs.Refusals.{wrongId, wrongEntry};
 ghost use Rattle.acceptance.specs.Rules.{firstOf};
 ghost use Rattle.acceptance.specs.Rules.{unless as Rules·unless, between as Rules·between};
-ghost use Rattle.acceptance.specs.Acceptance.{headRules, rowsRefusal, planRefusal, fieldRules, memberRefusal, loneRefusal, acceptanceOf};
-
-// The heading, rules 2.2 to 2.9.
-pub fn head_refusal(p: Plan) -> u64
-    ensures { λ r. ⌜ r ≡ firstOf (headRules p) ⌝ }
-{
-    let years = or_else(years_rule(p.years), 0);
-    let assets = or_else(assets_rule(p.assets), years);
-    let method = or_else(method_rule(p.method), assets);
-    let average = or_else(average_rule(p.formula, p.average), method);
-    let unit = or_else(unit_rule(p.formula, p.unit), average);
-    let formula = or_else(formula_rule(p.formula), unit);
-    let retire = or_else(retire_rule(p.retire), formula);
-    or_else(interest_rule(p.interest), retire)
-}
-
-// The table, rules 3.2, 3.4 and 3.5.
-pub fn rows_refusal(rows: [[u32; 4]; 106]) -> u64
-    ensures { λ r. ⌜ r ≡ rowsRefusal rows 15 106 ⌝ }
-{
-    let mut k: usize = 15;
-    let mut before: u64 = 0;
-    while k <= 120 {
-        let row = row_of(rows[k - 15]);
-        let refusal = row_rule(k, before, row);
-        if refusal != 0 {
-            return refusal;
-        }
-        before = row.weight;
-        k += 1;
-    }
-    0
-}
+ghost use Rattle.acceptance.specs.Acceptance.{planRefusal, fieldRules, memberRefusal, loneRefusal, acceptanceOf};
 
 // The heading and the rows.
 pub fn plan_refusal(p: Plan, rows: [[u32; 4]; 106]) -> u64
     ensures { λ r. ⌜ r ≡ planRefusal p rows ⌝ }
 {
-    or_else(head_refusal(p), or_else(rows_refusal(rows), 0))
+    or_else(head_refusal(p), rows_refusal(rows))
 }
 
 // A member of an accepted plan, after the member with the id `before`. Of its benefit rule 7.8 looks at B(r) alone.
@@ -80,29 +48,29 @@ pub fn member_refusal(p: Plan, rows: &[[u32; 4]; 106], before: u64, m: Member) -
         return fields;
     }
     let top = accrued_benefit(p, rows, m, p.retire);
-    or_else(unless(top <= 100_000_000, 25), 0)
+    unless(top <= 100_000_000, HIGH_BENEFIT)
 }
 
 // The member's fields alone, rules 4.2 to 4.5.
 fn fields_refusal(p: Plan, before: u64, m: Member) -> u64
     ensures { λ r. ⌜ r ≡ firstOf (fieldRules p before m) ⌝ }
 {
-    let salary = or_else(unless(m.salary <= 100_000_000, 24), 0);
-    let age = or_else(unless_between(m.entry, p.retire, m.age, 23), salary);
+    let salary = unless(m.salary <= 100_000_000, WRONG_SALARY);
+    let age = or_else(unless_between(m.entry, p.retire, m.age, WRONG_AGE), salary);
     let entry = or_else(entry_rule(p.retire, m.entry), age);
     or_else(id_rule(before, m.id), entry)
 }
 
 fn entry_rule(retire: u64, entry: u64) -> u64
-    ensures { λ r. ⌜ r ≡ Rules·unless (leb 15 entry && ltb entry retire) 22 ⌝ }
+    ensures { λ r. ⌜ r ≡ Rules·unless (leb 15 entry && ltb entry retire) wrongEntry ⌝ }
 {
-    unless(both(15 <= entry, entry < retire), 22)
+    unless(both(15 <= entry, entry < retire), WRONG_ENTRY)
 }
 
 fn id_rule(before: u64, id: u64) -> u64
-    ensures { λ r. ⌜ r ≡ Rules·unless (Rules·between 1 999999999 id && ltb before id) 21 ⌝ }
+    ensures { λ r. ⌜ r ≡ Rules·unless (Rules·between 1 999999999 id && ltb before id) wrongId ⌝ }
 {
-    unless(both(between(1, 999_999_999, id), before < id), 21)
+    unless(both(between(1, 999_999_999, id), before < id), WRONG_ID)
 }
 
 // The answer of an entry: accepted, or a refusal's number and line. The line of plain values is 0.

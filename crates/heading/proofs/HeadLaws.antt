@@ -1,5 +1,5 @@
 -- The terms: the invariant of the loop that reads them.
-use Prim.Native.Nat.{ℕ, zero, suc, _+_, _≤_, _<_}
+use Prim.Native.Nat.{ℕ, _+_, _≤_, _<_}
 use mathlib.Core.Path.{_≡_, refl, sym, ap, _∙_}
 use mathlib.Core.List.{List, [], _∷_, _++_}
 use mathlib.Core.Bool.{Bool, true}
@@ -13,7 +13,8 @@ use Rattle.fields.specs.declared.lines.Line.the-variants.{Good, Wrong, Cut}
 use Rattle.fields.specs.Split.{uptoOf, pastOf}
 use Rattle.fields.specs.Values.{Values, Held}
 use Rattle.fields.proofs.AnswerLaws.{is-good, is-wrong, is-cut, Answers}
-use Rattle.acceptance.specs.Acceptance.{termRule, unitRule, averageRule}
+use Rattle.acceptance.specs.Acceptance.{termRule}
+use Rattle.acceptance.proofs.TermLaws.{only-before}
 use Rattle.walk.specs.Outcome.{refusal, settled}
 use Rattle.walk.specs.Terms.{termForms, termForm, termRefusal}
 use Rattle.walk.specs.Step.{heading, right, withTerm, afterTerm, termLine, verdictOf}
@@ -23,18 +24,6 @@ use Rattle.walk.proofs.StepLaws.{each-next}
 use Rattle.stretches.specs.Heads.{headed}
 use Rattle.stretches.proofs.StretchLaws.{line-cut, line-wrong, line-refused, line-passed, next-rest, next-within}
 use Rattle.heading.specs.Stretch.{HeadDone}
-
--- a rule looks at no term but those before it
-only-before : (k : ℕ) (t : List ℕ) (v : ℕ) → termRule k (take k t) v ≡ termRule k t v
-only-before zero t v = refl
-only-before (suc zero) t v = refl
-only-before (suc (suc zero)) t v = refl
-only-before (suc (suc (suc zero))) t v = ap (λ (f : ℕ). unitRule f v) (getD-take 3 t 2 0 (omega arith))
-only-before (suc (suc (suc (suc zero)))) t v = ap (λ (f : ℕ). averageRule f v) (getD-take 4 t 2 0 (omega arith))
-only-before (suc (suc (suc (suc (suc zero))))) t v = refl
-only-before (suc (suc (suc (suc (suc (suc zero)))))) t v = refl
-only-before (suc (suc (suc (suc (suc (suc (suc zero))))))) t v = refl
-only-before (suc (suc (suc (suc (suc (suc (suc (suc k)))))))) t v = refl
 
 eight : length termForms ≡ 8
 unfolding termForms

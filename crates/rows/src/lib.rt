@@ -1,6 +1,6 @@
 // The table, RULES section 3: a row for each age from 15 to 120.
-use acceptance::rules::Row;
-use acceptance::rules::row_rule;
+use acceptance::rows::Row;
+use acceptance::rows::row_rule;
 use fields::lines::Line;
 use fields::lines::Read;
 use fields::lines::keyed_line;

@@ -1,9 +1,17 @@
 -- `acceptance::fields_refusal` meets its contract.
 use Rattle.acceptance.specs.Acceptance.{fieldRules}
+use Rattle.acceptance.proofs.RuleLaws.{in-order, last-in-order}
 use Rattle.acceptance.proofs.fields_refusal.Statement.{statement}
 use Rattle.acceptance.proofs.fields_refusal.Tie as tie
 
-pub fields-refusal-spec : {M : Type 1} → statement M
+returns : tie.Need-returns
 unfolding fieldRules
-fields-refusal-spec =
-    tie.close (tie.spec (search) (search) (search) (search) (search) (search) (search) (search) (λ c. cc))
+returns c =
+    let entry = c .before .before in
+    let age = entry .before .before in
+    in-order (c .or-else3 .ensures) (c .before .id-rule .ensures)
+    (in-order (entry .or-else2 .ensures) (entry .before .entry-rule .ensures)
+    (last-in-order (age .or-else .ensures) (age .before .unless-between .ensures) (age .before .before .unless .ensures)))
+
+pub fields-refusal-spec : {M : Type 1} → statement M
+fields-refusal-spec = tie.close (tie.spec (search) (search) (search) (search) (search) (search) (search) returns)

@@ -1,11 +1,13 @@
 -- `acceptance::member_refusal` meets its contract.
-use mathlib.Core.Path.{refl, sym, ap, _∙_}
+use mathlib.Core.Path.{sym, ap, _∙_}
 use Prim.Native.Nat.{ℕ}
 use native.Mathlib.Nat.{le-refl, le-of-lt}
 use lib.Dec.{leb}
+use Rattle.plan.specs.Benefit.{B}
+use Rattle.acceptance.specs.Refusals.{highBenefit}
 use Rattle.acceptance.specs.Rules.{unless}
 use Rattle.acceptance.specs.Acceptance.{benefitRules}
-use Rattle.acceptance.proofs.RuleLaws.{in-order}
+use Rattle.acceptance.proofs.RuleLaws.{first-alone}
 use Rattle.acceptance.proofs.Facts.{plan-facts, placed-facts, fields-refused, fields-kept}
 use Rattle.acceptance.proofs.member_refusal.Statement.{statement}
 use Rattle.acceptance.proofs.member_refusal.Tie as tie
@@ -27,12 +29,13 @@ accrued-benefit-requires c κs =
 returns-2 : tie.Need-returns-2
 unfolding benefitRules
 returns-2 c =
-    let s = c .before .before .before .before .before in
+    let s = c .before .before .before .before in
     let a = s .args in
-    let fields = c .before .before .before .before .fields-refusal .ensures in
-    let top = c .before .before .accrued-benefit .ensures in
-    in-order (c .or-else .ensures) (c .before .unless .ensures ∙ ap (λ (x : ℕ). unless (leb x 100000000) 25) top) refl
-    ∙ sym (fields-kept (a .p) (a .rows .now) (a .before) (a .m) (sym fields ∙ c .before .before .before .if1 .left))
+    let fields = c .before .before .before .fields-refusal .ensures in
+    let top = c .before .accrued-benefit .ensures in
+    c .unless .ensures
+    ∙ ap (λ (x : ℕ). unless (leb x 100000000) highBenefit) top
+    ∙ sym (fields-kept (a .p) (a .rows .now) (a .before) (a .m) (sym fields ∙ c .before .before .if1 .left) ∙ first-alone (unless (leb (B (a .p) (a .rows .now) (a .m) (a .p .retire)) 100000000) highBenefit))
 
 pub member-refusal-spec : {M : Type 1} → statement M
 member-refusal-spec = search (tie.close, tie.spec, returns, accrued-benefit-requires, returns-2)

@@ -1,8 +1,12 @@
 -- `acceptance::plan_refusal` meets its contract.
 use Rattle.acceptance.specs.Acceptance.{planRefusal}
+use Rattle.acceptance.proofs.RuleLaws.{last-in-order}
 use Rattle.acceptance.proofs.plan_refusal.Statement.{statement}
 use Rattle.acceptance.proofs.plan_refusal.Tie as tie
 
-pub plan-refusal-spec : {M : Type 1} → statement M
+returns : tie.Need-returns
 unfolding planRefusal
-plan-refusal-spec = tie.close (tie.spec (search) (search) (search) (search) (λ c. cc))
+returns c = last-in-order (c .or-else .ensures) (c .before .before .head-refusal .ensures) (c .before .rows-refusal .ensures)
+
+pub plan-refusal-spec : {M : Type 1} → statement M
+plan-refusal-spec = tie.close (tie.spec (search) (search) (search) returns)

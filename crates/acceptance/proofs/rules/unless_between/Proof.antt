@@ -3,4 +3,4 @@ use Rattle.acceptance.proofs.rules.unless_between.Statement.{statement}
 use Rattle.acceptance.proofs.rules.unless_between.Tie as tie
 
 pub unless-between-spec : {M : Type 1} → statement M
-unless-between-spec = tie.close (tie.spec (search) (search) (λ c. cc))
+unless-between-spec = tie.close (tie.spec (search) (search) (λ c. rw (c .before .between .ensures) at (c .unless .ensures)))

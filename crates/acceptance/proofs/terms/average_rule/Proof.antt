@@ -1,7 +1,7 @@
--- `acceptance::rules::average_rule` meets its contract.
+-- `acceptance::terms::average_rule` meets its contract.
 use borrow.Author.Tests.{eq-eqb, ne-eqb}
-use Rattle.acceptance.proofs.rules.average_rule.Statement.{statement}
-use Rattle.acceptance.proofs.rules.average_rule.Tie as tie
+use Rattle.acceptance.proofs.terms.average_rule.Statement.{statement}
+use Rattle.acceptance.proofs.terms.average_rule.Tie as tie
 
 returns : tie.Need-returns
 returns c = simp (eq-eqb (c .before .before .args .formula) 3 (c .before .if1 .taken)) (c .unless-between .ensures)

@@ -1,7 +1,7 @@
--- `acceptance::rules::last_age_rule` meets its contract.
+-- `acceptance::rows::last_age_rule` meets its contract.
 use borrow.Author.Tests.{eq-eqb, ne-eqb}
-use Rattle.acceptance.proofs.rules.last_age_rule.Statement.{statement}
-use Rattle.acceptance.proofs.rules.last_age_rule.Tie as tie
+use Rattle.acceptance.proofs.rows.last_age_rule.Statement.{statement}
+use Rattle.acceptance.proofs.rows.last_age_rule.Tie as tie
 
 pub last-age-rule-spec : {M : Type 1} → statement M
 last-age-rule-spec =

@@ -1,7 +1,7 @@
--- `acceptance::rules::unit_rule` meets its contract.
+-- `acceptance::terms::unit_rule` meets its contract.
 use borrow.Author.Tests.{eq-eqb, ne-eqb}
-use Rattle.acceptance.proofs.rules.unit_rule.Statement.{statement}
-use Rattle.acceptance.proofs.rules.unit_rule.Tie as tie
+use Rattle.acceptance.proofs.terms.unit_rule.Statement.{statement}
+use Rattle.acceptance.proofs.terms.unit_rule.Tie as tie
 
 returns : tie.Need-returns
 returns c = simp (eq-eqb (c .before .before .args .formula) 1 (c .before .if1 .taken)) (c .unless .ensures)

@@ -1,13 +1,13 @@
--- `acceptance::rows_refusal` meets its contract.
+-- `acceptance::rows::rows_refusal` meets its contract.
 use mathlib.Core.Path.{_≡_, sym, ap, _∙_}
 use Prim.Native.Nat.{_-_, _≤_}
 use native.Mathlib.Omega.{arith}
-use Rattle.acceptance.specs.declared.rules.Row.{Row}
+use Rattle.acceptance.specs.declared.rows.Row.{Row}
 use Rattle.acceptance.specs.Rules.{firstOf}
 use Rattle.acceptance.specs.Acceptance.{rowRules, rowOf, weightBefore, rowsRefusal}
 use Rattle.acceptance.proofs.RuleLaws.{rows-refused, rows-passed, weight-passed, rows-done}
-use Rattle.acceptance.proofs.rows_refusal.Statement.{statement}
-use Rattle.acceptance.proofs.rows_refusal.Tie as tie
+use Rattle.acceptance.proofs.rows.rows_refusal.Statement.{statement}
+use Rattle.acceptance.proofs.rows.rows_refusal.Tie as tie
 
 abbrev Inv-loop : tie.InvT-loop
 Inv-loop rows k₀ before₀ k before =

@@ -1,6 +1,0 @@
--- `acceptance::rules::weight_rule` meets its contract.
-use Rattle.acceptance.proofs.rules.weight_rule.Statement.{statement}
-use Rattle.acceptance.proofs.rules.weight_rule.Tie as tie
-
-pub weight-rule-spec : {M : Type 1} → statement M
-weight-rule-spec = tie.close (tie.spec (search) (search) (search) (λ c. cc))
