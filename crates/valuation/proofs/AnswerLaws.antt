@@ -16,7 +16,7 @@ use Rattle.annuity.specs.Factors.{S, C}
 use Rattle.plan.specs.declared.Plan.{Plan}
 use Rattle.plan.specs.declared.Member.{Member}
 use Rattle.plan.proofs.Facts.{member-facts}
-use Rattle.members.specs.Stored.{memberAt, arrayOf}
+use Rattle.members.specs.Array.{memberAt, arrayOf}
 use Rattle.members.proofs.ArrayLaws.{array-member}
 use Rattle.casefile.specs.declared.Accepting.the-variants.{Accepted as CaseAccepted, Refused as CaseRefused}
 use Rattle.walk.specs.Outcome.{Outcome, values, refusal, andThen}

@@ -3,7 +3,7 @@ use mathlib.Core.Path.{refl}
 use mathlib.Core.List.{List}
 use Prim.Native.Nat.{ℕ, _+_}
 use native.Mathlib.Numerals.{add-one}
-use Rattle.members.specs.Stored.{memberAt}
+use Rattle.members.specs.Array.{memberAt}
 use Rattle.printing.specs.Puts.{Puts}
 use Rattle.printing.proofs.SetsLaws.{_then_}
 use Rattle.valuation.specs.Lines.{figuresLine}
