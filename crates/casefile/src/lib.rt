@@ -39,7 +39,9 @@ fn walk_lines(case: &[u8], ranges: bool, rows: &mut Rows, members: &mut Members)
     }
     let mut terms = [0u64; 8];
     match head_lines(case, ranges, &mut terms) {
-        Stretch::Done(line, at) => { walk_table(from(case, at), line, ranges, &terms, rows, members) }
+        Stretch::Done(line, at) => {
+            walk_table(from(case, at), line, ranges, &terms, rows, members)
+        }
         Stretch::Refused(number, line) => Walked::Refused(number, line),
     }
 }

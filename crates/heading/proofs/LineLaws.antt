@@ -45,4 +45,3 @@ no-form k s known {r} far unread = pick (hasOf 10 s) refl unread
     pick : (h : Bool) → hasOf 10 s ≡ h → r ≡ cond h Wrong Cut → Answers (termForm k) s r known
     pick true has e = rw e (answers-wrong (termForm k) s known has (none (uptoOf 10 s)))
     pick false has e = rw e (answers-cut (termForm k) s known has)
-

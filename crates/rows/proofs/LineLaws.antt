@@ -50,4 +50,3 @@ module _ (age : ℕ) (s values : List ℕ) {r : Line} (read : Answers (keyedOf (
 
   pub row-cut : r ≡ Cut → Answers (rowOf age) s Cut (RowHeld (rowOf age (uptoOf 10 s)) values)
   row-cut is = answers-cut (rowOf age) s row-known (is-cut (keyedOf (bytes "row=") wholeOf 4) s (read .0) is)
-
