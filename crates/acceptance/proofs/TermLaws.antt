@@ -8,7 +8,7 @@ use native.Mathlib.Omega.{arith}
 use lib.ListN.{length, getD, take, drop, drop-of-length-le, List·getD-eq-default}
 use lib.Seq.{drop-cons, getD-take}
 use Rattle.acceptance.specs.Rules.{firstOf}
-use Rattle.acceptance.specs.Acceptance.{TermRule, termRules, termRule, unitRule, averageRule, judged}
+use Rattle.acceptance.specs.Acceptance.{TermRule, termRules, termRule, unitRule, averageRule, ruled}
 use Rattle.acceptance.proofs.RuleLaws.{first-refuses, first-passes}
 
 -- past the last term there is no rule
@@ -31,40 +31,40 @@ only-before (suc (suc (suc (suc (suc (suc (suc zero))))))) t v = refl
 only-before (suc (suc (suc (suc (suc (suc (suc (suc k)))))))) t v = refl
 
 -- each is judged by the rule of its place
-judged-at : (rules : List TermRule) (before t : List ℕ) (k : ℕ) → k < length rules → k < length t → getD (judged rules before t) k 0 ≡ getD rules k (λ b v. 0) (before ++ take k t) (getD t k 0)
-judged-at [] before t k h l = absurd (omega arith)
-judged-at (rule ∷ rules) before [] k h l = absurd (omega arith)
-judged-at (rule ∷ rules) before (v ∷ t) zero h l = rw append-nil
-judged-at (rule ∷ rules) before (v ∷ t) (suc k) h l =
-    rw append-assoc at (judged-at rules (before ++ v ∷ []) t k (omega arith) (omega arith))
+ruled-at : (rules : List TermRule) (before t : List ℕ) (k : ℕ) → k < length rules → k < length t → getD (ruled rules before t) k 0 ≡ getD rules k (λ b v. 0) (before ++ take k t) (getD t k 0)
+ruled-at [] before t k h l = absurd (omega arith)
+ruled-at (rule ∷ rules) before [] k h l = absurd (omega arith)
+ruled-at (rule ∷ rules) before (v ∷ t) zero h l = rw append-nil
+ruled-at (rule ∷ rules) before (v ∷ t) (suc k) h l =
+    rw append-assoc at (ruled-at rules (before ++ v ∷ []) t k (omega arith) (omega arith))
 
-judged-all : (rules : List TermRule) (before t : List ℕ) → length t ≤ length rules → length (judged rules before t) ≡ length t
-judged-all [] before [] h = refl
-judged-all [] before (v ∷ t) h = absurd (omega arith)
-judged-all (rule ∷ rules) before [] h = refl
-judged-all (rule ∷ rules) before (v ∷ t) h = ap suc (judged-all rules (before ++ v ∷ []) t (omega arith))
+ruled-all : (rules : List TermRule) (before t : List ℕ) → length t ≤ length rules → length (ruled rules before t) ≡ length t
+ruled-all [] before [] h = refl
+ruled-all [] before (v ∷ t) h = absurd (omega arith)
+ruled-all (rule ∷ rules) before [] h = refl
+ruled-all (rule ∷ rules) before (v ∷ t) h = ap suc (ruled-all rules (before ++ v ∷ []) t (omega arith))
 
 -- ---- the terms from the k-th on
 abbrev pub termsFrom : List ℕ → ℕ → ℕ
-termsFrom t k = firstOf (drop k (judged termRules [] t))
+termsFrom t k = firstOf (drop k (ruled termRules [] t))
 
 module _ (t : List ℕ) (size : length t ≡ 8) where
-  all : length (judged termRules [] t) ≡ 8
-  all = judged-all termRules [] t (omega arith) ∙ size
+  all : length (ruled termRules [] t) ≡ 8
+  all = ruled-all termRules [] t (omega arith) ∙ size
 
   module _ (k : ℕ) {n : ℕ} (here : n ≡ termRule k t (getD t k 0)) where
-    unfolds : k < 8 → termsFrom t k ≡ firstOf (n ∷ drop (k + 1) (judged termRules [] t))
+    unfolds : k < 8 → termsFrom t k ≡ firstOf (n ∷ drop (k + 1) (ruled termRules [] t))
     unfolds h =
         let next : suc k ≡ k + 1 = omega arith in
-        let rule = judged-at termRules [] t k h (omega arith) ∙ only-before k t (getD t k 0) ∙ sym here in
-        ap firstOf (drop-cons (judged termRules [] t) k 0 (omega (arith, all)))
-        ∙ (λ i. firstOf (rule i ∷ drop (next i) (judged termRules [] t)))
+        let rule = ruled-at termRules [] t k h (omega arith) ∙ only-before k t (getD t k 0) ∙ sym here in
+        ap firstOf (drop-cons (ruled termRules [] t) k 0 (omega (arith, all)))
+        ∙ (λ i. firstOf (rule i ∷ drop (next i) (ruled termRules [] t)))
 
     pub terms-refused : k < 8 → (n ≡ 0 → ⊥) → n ≡ termsFrom t k
-    terms-refused h some = sym (unfolds h ∙ first-refuses n (drop (k + 1) (judged termRules [] t)) some)
+    terms-refused h some = sym (unfolds h ∙ first-refuses n (drop (k + 1) (ruled termRules [] t)) some)
 
     pub terms-passed : k < 8 → n ≡ 0 → termsFrom t k ≡ termsFrom t (k + 1)
-    terms-passed h none = unfolds h ∙ first-passes n (drop (k + 1) (judged termRules [] t)) none
+    terms-passed h none = unfolds h ∙ first-passes n (drop (k + 1) (ruled termRules [] t)) none
 
   pub terms-done : (k : ℕ) → 8 ≤ k → termsFrom t k ≡ 0
-  terms-done k h = rw (drop-of-length-le (judged termRules [] t) {i = k} (omega (arith, all)))
+  terms-done k h = rw (drop-of-length-le (ruled termRules [] t) {i = k} (omega (arith, all)))

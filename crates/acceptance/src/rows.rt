@@ -69,7 +69,10 @@ fn last_age_rule(k: usize, death: u64) -> u64
 fn weight_rule(before: u64, weight: u64) -> u64
     ensures { λ r. ⌜ r ≡ Rules·unless (Rules·between 1000 100000 weight && leb before weight) wrongWeight ⌝ }
 {
-    unless(both(between(1000, 100_000, weight), before <= weight), WRONG_WEIGHT)
+    unless(
+        both(between(1000, 100_000, weight), before <= weight),
+        WRONG_WEIGHT,
+    )
 }
 
 // The first refusal of all rows.

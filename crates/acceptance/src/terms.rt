@@ -10,7 +10,7 @@ ghost use mathlib.Core.Path.{_≡_};
 ghost use mathlib.Core.List.{[]};
 ghost use lib.ListN.{length};
 ghost use Rattle.acceptance.specs.Rules.{firstOf};
-ghost use Rattle.acceptance.specs.Acceptance.{unitRule, averageRule, termRule, termRules, termsOf, planFrom, judged, headRules};
+ghost use Rattle.acceptance.specs.Acceptance.{unitRule, averageRule, termRule, termRules, termsOf, planFrom, ruled, headRules};
 
 // The rule of the term with k before it, for the value v: a refusal's number, or 0. Of `terms` only those before it count.
 pub fn term_rule(k: usize, terms: &Terms, v: u64) -> u64
@@ -62,7 +62,7 @@ pub fn head_refusal(p: Plan) -> u64
 // The first refusal of the terms.
 fn terms_refusal(terms: &Terms) -> u64
     requires { ⌜ length (now terms) ≡ 8 ⌝ }
-    ensures { λ r. ⌜ r ≡ firstOf (judged termRules [] (now (terms .entry))) ⌝ }
+    ensures { λ r. ⌜ r ≡ firstOf (ruled termRules [] (now (terms .entry))) ⌝ }
 {
     let mut k: usize = 0;
     while k < 8 {
@@ -79,7 +79,16 @@ fn terms_refusal(terms: &Terms) -> u64
 fn terms_of(p: Plan) -> Terms
     ensures { λ t. ⌜ t ≡ termsOf p ⌝ }
 {
-    [p.interest, p.retire, p.formula, p.unit, p.average, p.method, p.assets, p.years]
+    [
+        p.interest,
+        p.retire,
+        p.formula,
+        p.unit,
+        p.average,
+        p.method,
+        p.assets,
+        p.years,
+    ]
 }
 
 // The plan that has these terms.

@@ -5,8 +5,8 @@ use mathlib.Core.List.{List}
 use mathlib.Core.Bool.{true, false}
 use Rattle.plan.specs.declared.Plan.{Plan}
 use Rattle.walk.specs.Walk.{walkOf}
-use Rattle.casefile.specs.declared.Walk.{Walk}
-use Rattle.casefile.specs.declared.Walk.the-variants.{Whole, Refused}
+use Rattle.casefile.specs.declared.Walked.{Walked}
+use Rattle.casefile.specs.declared.Walked.the-variants.{Whole, Refused}
 use Rattle.casefile.specs.declared.Reading.the-variants.{Read, Refused as ReadingRefused}
 use Rattle.casefile.specs.declared.Accepting.{Accepting}
 use Rattle.casefile.specs.declared.Accepting.the-variants.{Accepted, Refused as AcceptingRefused}
@@ -15,7 +15,7 @@ use Rattle.casefile.specs.Stored.{rowsAfter, membersAfter}
 use Rattle.casefile.specs.Stretch.{WalkIs}
 
 -- ---- reading
-module _ (s : List ℕ) (w : Walk) (rows members : List (List ℕ)) (walked : WalkIs false (walkOf false s) w rows members) where
+module _ (s : List ℕ) (w : Walked) (rows members : List (List ℕ)) (walked : WalkIs false (walkOf false s) w rows members) where
   pub whole-read : {p : Plan} {n : ℕ} → w ≡ Whole p n → Read ≡ readingOf s
   unfolding WalkIs readingOf
   whole-read is = let d = rw is at walked in rw (d .way)
@@ -29,7 +29,7 @@ abbrev Accepts : List ℕ → Accepting → (rows oldRows members oldMembers : L
 Accepts s a rows oldRows members oldMembers =
     (a ≡ accepting (acceptingOf s)) × ((rows ≡ rowsAfter (acceptingOf s) oldRows) × (members ≡ membersAfter (acceptingOf s) oldMembers))
 
-module _ (s : List ℕ) (w : Walk) (rows members : List (List ℕ)) (walked : WalkIs true (walkOf true s) w rows members) (oldRows oldMembers : List (List ℕ)) where
+module _ (s : List ℕ) (w : Walked) (rows members : List (List ℕ)) (walked : WalkIs true (walkOf true s) w rows members) (oldRows oldMembers : List (List ℕ)) where
   pub whole-accepted : {p : Plan} {n : ℕ} → w ≡ Whole p n → Accepts s (Accepted p n) rows oldRows members oldMembers
   unfolding WalkIs acceptingOf
   whole-accepted is =

@@ -11,7 +11,7 @@ use Rattle.walk.specs.Lines.{mostMembers}
 use Rattle.walk.specs.Walk.{Case}
 use Rattle.walk.specs.Kept.{idBefore, AcceptedCase}
 use Rattle.walk.proofs.Accepted.{accepted-keeps}
-use Rattle.members.specs.Stored.{arrayOf}
+use Rattle.members.specs.Array.{arrayOf}
 use Rattle.members.proofs.ArrayLaws.{array-member}
 use Rattle.casefile.specs.declared.Accepting.the-variants.{Accepted}
 use Rattle.casefile.specs.Answers.{acceptingOf, accepting}

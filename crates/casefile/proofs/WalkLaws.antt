@@ -13,26 +13,25 @@ use Rattle.walk.specs.Terms.{termForms}
 use Rattle.walk.specs.Step.{Head, table}
 use Rattle.walk.specs.Walk.{caseOf, start, walkFrom, walkOf}
 use Rattle.walk.proofs.Accepted.{plan-kept}
-use Rattle.stretches.specs.declared.Part.{Part}
-use Rattle.stretches.specs.declared.Part.the-variants.{Done, Refused}
+use Rattle.stretches.specs.declared.Stretch.{Stretch}
+use Rattle.stretches.specs.declared.Stretch.the-variants.{Done, Refused}
 use Rattle.stretches.specs.Heads.{headed, tabled}
 use Rattle.heading.specs.Stretch.{HeadKept, HeadDone, HeadIs}
 use Rattle.rows.specs.Stretch.{RowsDone, RowsAre}
 use Rattle.members.specs.declared.Count.{Count}
-use Rattle.members.specs.declared.Count.the-variants.{Members, Refused as CountRefused}
-use Rattle.members.specs.Stretch.{MembersAre}
-use Rattle.members.proofs.MemberLaws.{Fits}
-use Rattle.casefile.specs.declared.Walk.{Walk}
-use Rattle.casefile.specs.declared.Walk.the-variants.{Whole, Refused as WalkRefused}
+use Rattle.members.specs.declared.Count.the-variants.{Counted, Refused as CountRefused}
+use Rattle.members.specs.Stretch.{Fits, MembersAre}
+use Rattle.casefile.specs.declared.Walked.{Walked}
+use Rattle.casefile.specs.declared.Walked.the-variants.{Whole, Refused as WalkedRefused}
 use Rattle.casefile.specs.Stretch.{WalkIs}
 
 -- ---- after a heading
-module _ (ranges : Bool) (from : ℕ) (s : List ℕ) (r : Part) (array : List (List ℕ)) (rows : RowsAre ranges from s r array) where
-  pub table-refused : {n l : ℕ} (terms : List ℕ) (members : List (List ℕ)) → r ≡ Refused n l → WalkIs ranges (walkFrom ranges from (table (headed terms)) s) (WalkRefused n l) array members
+module _ (ranges : Bool) (first : ℕ) (s : List ℕ) (r : Stretch) (array : List (List ℕ)) (rows : RowsAre ranges first s r array) where
+  pub table-refused : {n l : ℕ} (terms : List ℕ) (members : List (List ℕ)) → r ≡ Refused n l → WalkIs ranges (walkFrom ranges first (table (headed terms)) s) (WalkedRefused n l) array members
   unfolding RowsAre WalkIs
   table-refused terms members is = (rw is at rows) terms
 
-  pub rows-are : {line at : ℕ} → r ≡ Done line at → RowsDone ranges from s line at array
+  pub rows-are : {line at : ℕ} → r ≡ Done line at → RowsDone ranges first s line at array
   unfolding RowsAre
   rows-are is = rw is at rows
 
@@ -49,7 +48,7 @@ module _ (ranges : Bool) (from : ℕ) (s : List ℕ) (r : Part) (array : List (L
           let d = rows-are is in
           rw cut at (rest-is (tabled terms (d .rows)) (λ on. (plan, d .exact on)))
 
-      pub table-whole : {n : ℕ} → c ≡ Members n → WalkIs ranges (walkFrom ranges from (table (headed terms)) s) (Whole p n) array members
+      pub table-whole : {n : ℕ} → c ≡ Counted n → WalkIs ranges (walkFrom ranges first (table (headed terms)) s) (Whole p n) array members
       unfolding MembersAre WalkIs
       table-whole same =
           let d = rows-are is in
@@ -63,7 +62,7 @@ module _ (ranges : Bool) (from : ℕ) (s : List ℕ) (r : Part) (array : List (L
             held = m .held;
           }
 
-      pub members-refused : {n l : ℕ} → c ≡ CountRefused n l → WalkIs ranges (walkFrom ranges from (table (headed terms)) s) (WalkRefused n l) array members
+      pub members-refused : {n l : ℕ} → c ≡ CountRefused n l → WalkIs ranges (walkFrom ranges first (table (headed terms)) s) (WalkedRefused n l) array members
       unfolding MembersAre WalkIs
       members-refused same = rows-are is .way terms ∙ (rw same at here)
 
@@ -77,7 +76,7 @@ module _ (ranges : Bool) (s : List ℕ) where
   unfolding walkOf
   lines small = simp (le-ltb 65536 (length s) small)
 
-  module _ (small : length s ≤ 65536) (terms : List ℕ) (r : Part) (head : HeadIs ranges s r terms) where
+  module _ (small : length s ≤ 65536) (terms : List ℕ) (r : Stretch) (head : HeadIs ranges s r terms) where
     pub head-refused : {n l : ℕ} → r ≡ Refused n l → walkOf ranges s ≡ refusal n l
     unfolding HeadIs
     head-refused is = lines small ∙ (rw is at head)
@@ -91,5 +90,5 @@ module _ (ranges : Bool) (s : List ℕ) where
     head-low is = omega (arith, head-is is .place)
 
     -- what the rest of the walk answers is the whole walk's answer
-    pub walk-is : {line at : ℕ} (rest : List ℕ) (w : Walk) (rows members : List (List ℕ)) → r ≡ Done line at → rest ≡ drop at s → WalkIs ranges (walkFrom ranges line (table (headed terms)) rest) w rows members → WalkIs ranges (walkOf ranges s) w rows members
+    pub walk-is : {line at : ℕ} (rest : List ℕ) (w : Walked) (rows members : List (List ℕ)) → r ≡ Done line at → rest ≡ drop at s → WalkIs ranges (walkFrom ranges line (table (headed terms)) rest) w rows members → WalkIs ranges (walkOf ranges s) w rows members
     walk-is rest w rows members is cut on = rw (lines small ∙ head-is is .way, ← cut) on

@@ -7,7 +7,7 @@ use Rattle.acceptance.specs.Acceptance.{planRefusal, memberRefusal}
 use Rattle.walk.specs.Outcome.{Outcome, values, refusal}
 use Rattle.walk.specs.Lines.{mostMembers}
 use Rattle.walk.specs.Walk.{Case}
-use Rattle.members.specs.Stored.{arrayOf, memberAt}
+use Rattle.members.specs.Array.{arrayOf, memberAt}
 use Rattle.casefile.specs.declared.Accepting.the-variants.{Accepted}
 use Rattle.casefile.specs.Answers.{acceptingOf, accepting}
 

@@ -7,9 +7,9 @@ use lib.ListN.{length}
 use Rattle.plan.specs.declared.Plan.{Plan}
 use Rattle.walk.specs.Outcome.{Outcome, values, refusal}
 use Rattle.walk.specs.Walk.{Case}
-use Rattle.members.specs.Stored.{arrayOf}
-use Rattle.casefile.specs.declared.Walk.{Walk}
-use Rattle.casefile.specs.declared.Walk.the-variants.{Whole, Refused}
+use Rattle.members.specs.Array.{arrayOf}
+use Rattle.casefile.specs.declared.Walked.{Walked}
+use Rattle.casefile.specs.declared.Walked.the-variants.{Whole, Refused}
 
 pub record WalkDone (ranges : Bool) (o : Outcome Case) (p : Plan) (n : ℕ) (rows members : List (List ℕ)) : Type 0 where
   pub case : Case
@@ -19,6 +19,6 @@ pub record WalkDone (ranges : Bool) (o : Outcome Case) (p : Plan) (n : ℕ) (row
   pub table : ranges ≡ true → rows ≡ case .rows
   pub held : members ≡ arrayOf (case .members)
 
-unfoldable pub WalkIs : (ranges : Bool) → Outcome Case → Walk → (rows members : List (List ℕ)) → Type 0
+unfoldable pub WalkIs : (ranges : Bool) → Outcome Case → Walked → (rows members : List (List ℕ)) → Type 0
 WalkIs ranges o (Whole p n) rows members = WalkDone ranges o p n rows members
 WalkIs ranges o (Refused number line) rows members = o ≡ refusal number line

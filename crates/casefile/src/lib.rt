@@ -12,7 +12,7 @@ use plan::Plan;
 use plan::Terms;
 use rates::Rows;
 use rows::row_lines;
-use stretches::Part;
+use stretches::Stretch;
 ghost use mathlib.Core.Path.{_≡_};
 ghost use Rattle.casefile.specs.Answers.{readingOf, acceptingOf, accepting};
 ghost use Rattle.casefile.specs.Stored.{rowsAfter, membersAfter};
@@ -24,23 +24,25 @@ ghost use Rattle.heading.specs.Stretch.{HeadKept};
 ghost use Rattle.casefile.specs.Stretch.{WalkIs};
 
 // What the walk gives: the plan and the count of members, or the first refusal's number and line.
-enum Walk {
+enum Walked {
     Whole(Plan, u64),
     Refused(u64, u64),
 }
 
 // One walk over the lines, for their form alone or for their ranges too. Both arrays are left open after a refusal, and
 // the rows where the ranges are not settled.
-fn walk_lines(case: &[u8], ranges: bool, rows: &mut Rows, members: &mut Members) -> Walk
+fn walk_lines(case: &[u8], ranges: bool, rows: &mut Rows, members: &mut Members) -> Walked
     ensures { λ r. ⌜ WalkIs ranges (walkOf ranges (now (case .entry))) r (now (rows .exit)) (now (members .exit)) ⌝ }
 {
     if 65_536 < case.len() {
-        return Walk::Refused(1, 0);
+        return Walked::Refused(1, 0);
     }
     let mut terms = [0u64; 8];
     match head_lines(case, ranges, &mut terms) {
-        Part::Done(line, at) => { walk_table(from(case, at), line, ranges, &terms, rows, members) }
-        Part::Refused(number, line) => Walk::Refused(number, line),
+        Stretch::Done(line, at) => {
+            walk_table(from(case, at), line, ranges, &terms, rows, members)
+        }
+        Stretch::Refused(number, line) => Walked::Refused(number, line),
     }
 }
 
@@ -52,19 +54,19 @@ fn walk_table(
     terms: &Terms,
     rows: &mut Rows,
     members: &mut Members,
-) -> Walk
+) -> Walked
     requires { ⌜ HeadKept ranges (now terms) × (line ≤ 65536) ⌝ }
     ensures { λ r. ⌜ WalkIs ranges (walkFrom ranges line (table (headed (now (terms .entry)))) (now (s .entry))) r (now (rows .exit)) (now (members .exit)) ⌝ }
 {
     match row_lines(s, line, ranges, rows) {
-        Part::Done(next, at) => {
+        Stretch::Done(next, at) => {
             let p = plan_from(terms);
             match member_lines(from(s, at), next, ranges, p, rows, members) {
-                Count::Members(n) => Walk::Whole(p, n),
-                Count::Refused(number, place) => Walk::Refused(number, place),
+                Count::Counted(n) => Walked::Whole(p, n),
+                Count::Refused(number, place) => Walked::Refused(number, place),
             }
         }
-        Part::Refused(number, place) => Walk::Refused(number, place),
+        Stretch::Refused(number, place) => Walked::Refused(number, place),
     }
 }
 
@@ -81,8 +83,8 @@ pub fn read_case(case: &[u8]) -> Reading
     let mut rows = [[0u32; 4]; 106];
     let mut members = [[0u64; 4]; 1000];
     match walk_lines(case, false, &mut rows, &mut members) {
-        Walk::Whole(_, _) => Reading::Read,
-        Walk::Refused(number, line) => Reading::Refused(number, line),
+        Walked::Whole(_, _) => Reading::Read,
+        Walked::Refused(number, line) => Reading::Refused(number, line),
     }
 }
 
@@ -103,11 +105,11 @@ pub fn accept_case(case: &[u8], rows: &mut Rows, members: &mut Members) -> Accep
     let mut table = [[0u32; 4]; 106];
     let mut array = [[0u64; 4]; 1000];
     match walk_lines(case, true, &mut table, &mut array) {
-        Walk::Whole(p, n) => {
+        Walked::Whole(p, n) => {
             *rows = table;
             *members = array;
             Accepting::Accepted(p, n)
         }
-        Walk::Refused(number, line) => Accepting::Refused(number, line),
+        Walked::Refused(number, line) => Accepting::Refused(number, line),
     }
 }

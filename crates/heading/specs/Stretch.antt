@@ -9,8 +9,8 @@ use Rattle.walk.specs.Terms.{termForms, termRefusal}
 use Rattle.walk.specs.Step.{table}
 use Rattle.walk.specs.Walk.{start, walkFrom}
 use Rattle.walk.specs.Kept.{Each}
-use Rattle.stretches.specs.declared.Part.{Part}
-use Rattle.stretches.specs.declared.Part.the-variants.{Done, Refused}
+use Rattle.stretches.specs.declared.Stretch.{Stretch}
+use Rattle.stretches.specs.declared.Stretch.the-variants.{Done, Refused}
 use Rattle.stretches.specs.Heads.{headed}
 
 -- as many terms as there are lines of them, which keep their rules where the ranges are settled
@@ -24,6 +24,6 @@ pub record HeadDone (ranges : Bool) (s : List ℕ) (line at : ℕ) (terms : List
   pub within : at ≤ length s
   pub way : walkFrom ranges 1 start s ≡ walkFrom ranges line (table (headed terms)) (drop at s)
 
-unfoldable pub HeadIs : (ranges : Bool) → List ℕ → Part → (terms : List ℕ) → Type 0
+unfoldable pub HeadIs : (ranges : Bool) → List ℕ → Stretch → (terms : List ℕ) → Type 0
 HeadIs ranges s (Done line at) terms = HeadDone ranges s line at terms
 HeadIs ranges s (Refused number line) terms = walkFrom ranges 1 start s ≡ refusal number line

@@ -1,5 +1,6 @@
 // The heading, RULES section 2: the plan's own terms.
 use acceptance::terms::term_rule;
+use acceptance::terms::term_rule;
 use fields::lines::Line;
 use fields::lines::Read;
 use fields::lines::keyed_line;
@@ -8,7 +9,7 @@ use fields::text::from;
 use fields::text::same;
 use fields::text::seek;
 use plan::Terms;
-use stretches::Part;
+use stretches::Stretch;
 ghost use mathlib.Core.Path.{_≡_};
 ghost use Prim.Native.Nat.{ℕ};
 ghost use Rattle.fields.specs.declared.lines.Line.the-variants.{Good};
@@ -111,7 +112,7 @@ fn term_refusal(ranges: bool, k: usize, terms: &Terms, v: u64) -> u64
 }
 
 // Reads the terms, and settles their ranges too where that is asked for. After a refusal `terms` is left open.
-pub fn head_lines(s: &[u8], ranges: bool, terms: &mut Terms) -> Part
+pub fn head_lines(s: &[u8], ranges: bool, terms: &mut Terms) -> Stretch
     ensures { λ r. ⌜ HeadIs ranges (now (s .entry)) r (now (terms .exit)) ⌝ }
 {
     // Nothing that the caller left there is taken for a term.
@@ -126,20 +127,20 @@ pub fn head_lines(s: &[u8], ranges: bool, terms: &mut Terms) -> Part
                 let v = values[0];
                 let refusal = term_refusal(ranges, k, terms, v);
                 if refusal != 0 {
-                    return Part::Refused(refusal, line);
+                    return Stretch::Refused(refusal, line);
                 }
                 terms[k] = v;
                 at += e + 1;
             }
             Line::Wrong => {
-                return Part::Refused(10, line);
+                return Stretch::Refused(10, line);
             }
             Line::Cut => {
-                return Part::Refused(2, line);
+                return Stretch::Refused(2, line);
             }
         }
         line += 1;
         k += 1;
     }
-    Part::Done(line, at)
+    Stretch::Done(line, at)
 }

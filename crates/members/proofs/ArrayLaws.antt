@@ -8,7 +8,7 @@ use native.Mathlib.Omega.{arith}
 use Rattle.plan.specs.declared.Member.{Member}
 use Rattle.walk.specs.Lines.{mostMembers, memberFrom}
 use Rattle.walk.specs.Kept.{nobody}
-use Rattle.members.specs.Stored.{numbersOf, arrayOf, memberAt}
+use Rattle.members.specs.Array.{numbersOf, arrayOf, memberAt}
 
 -- ---- one more
 sets-on : {A : Type 0} (l : List A) (i : ℕ) (vs : List A) (w : A) → sets l i (vs ++ w ∷ []) ≡ set (sets l i vs) (i + length vs) w

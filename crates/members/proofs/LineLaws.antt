@@ -16,49 +16,49 @@ use Rattle.fields.proofs.SplitLaws.{has-line, has-none}
 use Rattle.fields.proofs.KeyLaws.{starts-line}
 use Rattle.fields.proofs.AnswerLaws.{GoodLine, good-line, is-good, is-wrong, is-cut, Answers}
 use Rattle.walk.specs.Lines.{Tail, person, end, surplus, neither, memberFrom, personMade, endMade, tailOf}
-use Rattle.members.specs.declared.Line.the-variants.{Person, End, Surplus, Neither, Cut as CutOff}
-use Rattle.members.specs.declared.Line.{Line as TailLine}
-use Rattle.members.specs.Tails.{told, toldOf, Read}
+use Rattle.members.specs.declared.Kind.the-variants.{Person, End, Surplus, Neither, Cut as CutOff}
+use Rattle.members.specs.declared.Kind.{Kind}
+use Rattle.members.specs.Tails.{kindAt, kindOf, TailHeld}
 
-abbrev TailAnswers : (full : Bool) → List ℕ → TailLine → List ℕ → Type 0
-TailAnswers full s r values = (r ≡ toldOf full s) × Read full s r values
+abbrev TailAnswers : (full : Bool) → List ℕ → Kind → List ℕ → Type 0
+TailAnswers full s r values = (r ≡ kindOf full s) × TailHeld full s r values
 
 module _ (full : Bool) (s values : List ℕ) where
-  told-cut : hasOf 10 s ≡ false → TailAnswers full s CutOff values
-  unfolding toldOf
-  told-cut none =
+  kind-cut : hasOf 10 s ≡ false → TailAnswers full s CutOff values
+  unfolding kindOf
+  kind-cut none =
       (rw none, record { member = λ e is. let z : _≡_ {A = ℕ} 0 1 = cc in absurd (omega arith); count = λ e is. let z : _≡_ {A = ℕ} 0 1 = cc in absurd (omega arith) })
 
   module _ (has : hasOf 10 s ≡ true) where
-    told-is : {x : Tail} → tailOf full (uptoOf 10 s) ≡ x → told x (seekOf 10 s) ≡ toldOf full s
-    unfolding toldOf
-    told-is is = rw (has, is)
+    kind-is : {x : Tail} → tailOf full (uptoOf 10 s) ≡ x → kindAt x (seekOf 10 s) ≡ kindOf full s
+    unfolding kindOf
+    kind-is is = rw (has, is)
 
-    told-person : {e : ℕ} → e ≡ seekOf 10 s → tailOf full (uptoOf 10 s) ≡ person (memberFrom values) → length values ≡ 5 → TailAnswers full s (Person e) values
-    told-person place is size =
-        (ap Person place ∙ told-is is, record { member = λ e same. (is, size); count = λ e same. let z : _≡_ {A = ℕ} 0 1 = cc in absurd (omega arith) })
+    kind-person : {e : ℕ} → e ≡ seekOf 10 s → tailOf full (uptoOf 10 s) ≡ person (memberFrom values) → length values ≡ 5 → TailAnswers full s (Person e) values
+    kind-person place is size =
+        (ap Person place ∙ kind-is is, record { member = λ e same. (is, size); count = λ e same. let z : _≡_ {A = ℕ} 0 1 = cc in absurd (omega arith) })
 
-    told-end : {e : ℕ} → e ≡ seekOf 10 s → tailOf full (uptoOf 10 s) ≡ end (getD values 0 0) → length values ≡ 5 → TailAnswers full s (End e) values
-    told-end place is size =
-        (ap End place ∙ told-is is, record { member = λ e same. let z : _≡_ {A = ℕ} 0 1 = cc in absurd (omega arith); count = λ e same. (is, size) })
+    kind-end : {e : ℕ} → e ≡ seekOf 10 s → tailOf full (uptoOf 10 s) ≡ end (getD values 0 0) → length values ≡ 5 → TailAnswers full s (End e) values
+    kind-end place is size =
+        (ap End place ∙ kind-is is, record { member = λ e same. let z : _≡_ {A = ℕ} 0 1 = cc in absurd (omega arith); count = λ e same. (is, size) })
 
-    told-surplus : tailOf full (uptoOf 10 s) ≡ surplus → TailAnswers full s Surplus values
-    told-surplus is =
-        (told-is is, record { member = λ e same. let z : _≡_ {A = ℕ} 0 1 = cc in absurd (omega arith); count = λ e same. let z : _≡_ {A = ℕ} 0 1 = cc in absurd (omega arith) })
+    kind-surplus : tailOf full (uptoOf 10 s) ≡ surplus → TailAnswers full s Surplus values
+    kind-surplus is =
+        (kind-is is, record { member = λ e same. let z : _≡_ {A = ℕ} 0 1 = cc in absurd (omega arith); count = λ e same. let z : _≡_ {A = ℕ} 0 1 = cc in absurd (omega arith) })
 
-    told-neither : tailOf full (uptoOf 10 s) ≡ neither → TailAnswers full s Neither values
-    told-neither is =
-        (told-is is, record { member = λ e same. let z : _≡_ {A = ℕ} 0 1 = cc in absurd (omega arith); count = λ e same. let z : _≡_ {A = ℕ} 0 1 = cc in absurd (omega arith) })
+    kind-neither : tailOf full (uptoOf 10 s) ≡ neither → TailAnswers full s Neither values
+    kind-neither is =
+        (kind-is is, record { member = λ e same. let z : _≡_ {A = ℕ} 0 1 = cc in absurd (omega arith); count = λ e same. let z : _≡_ {A = ℕ} 0 1 = cc in absurd (omega arith) })
 
 -- one member too many
 module _ (s values : List ℕ) {b : Bool} (tested : b ≡ startsOf (bytes "member=") s) (on : b ≡ true) {e : ℕ} (at : e ≡ seekOf 10 s) where
   pub surplus-line : e < length s → TailAnswers true s Surplus values
   unfolding tailOf
   surplus-line h =
-      told-surplus true s values (has-line s at h) (rw (starts-line (bytes "member=") s refl ∙ sym tested ∙ on))
+      kind-surplus true s values (has-line s at h) (rw (starts-line (bytes "member=") s refl ∙ sym tested ∙ on))
 
   pub surplus-cut : length s ≤ e → TailAnswers true s CutOff values
-  surplus-cut h = told-cut true s values (has-none s at h)
+  surplus-cut h = kind-cut true s values (has-none s at h)
 
 -- a member
 starts-of : (key : List ℕ) (last : List ℕ → Number) (n : ℕ) (l : List ℕ) {vs : List ℕ} → keyedOf key last n l ≡ found vs → startsOf key l ≡ true
@@ -82,15 +82,15 @@ module _ (full : Bool) (s values : List ℕ) {r : Line} (room : full ≡ false) 
   member-good {e} is =
       let g = is-good (keyedOf (bytes "member=") amountOf 3) s (read .0) is in
       let h = read .1 e is in
-      told-person full s values (g .has) (g .place) (member-is (starts-of (bytes "member=") amountOf 3 (uptoOf 10 s) (h .is)) (h .is) ∙ ap person first-four) (h .size)
+      kind-person full s values (g .has) (g .place) (member-is (starts-of (bytes "member=") amountOf 3 (uptoOf 10 s) (h .is)) (h .is) ∙ ap person first-four) (h .size)
 
   pub member-wrong : {b : Bool} → r ≡ Wrong → b ≡ startsOf (bytes "member=") s → b ≡ true → TailAnswers full s Neither values
   member-wrong is tested on =
       let w = is-wrong (keyedOf (bytes "member=") amountOf 3) s (read .0) is in
-      told-neither full s values (w .0) (member-is (starts-line (bytes "member=") s refl ∙ sym tested ∙ on) (w .1))
+      kind-neither full s values (w .0) (member-is (starts-line (bytes "member=") s refl ∙ sym tested ∙ on) (w .1))
 
   pub member-cut : r ≡ Cut → TailAnswers full s CutOff values
-  member-cut is = told-cut full s values (is-cut (keyedOf (bytes "member=") amountOf 3) s (read .0) is)
+  member-cut is = kind-cut full s values (is-cut (keyedOf (bytes "member=") amountOf 3) s (read .0) is)
 
 -- the end
 module _ (full : Bool) (s values : List ℕ) (off-key : startsOf (bytes "member=") s ≡ false) {r : Line} (read : Answers (keyedOf (bytes "end=") wholeOf 0) s r (Held (keyedOf (bytes "end=") wholeOf 0 (uptoOf 10 s)) 0 values)) where
@@ -102,23 +102,23 @@ module _ (full : Bool) (s values : List ℕ) (off-key : startsOf (bytes "member=
   end-good {e} is =
       let g = is-good (keyedOf (bytes "end=") wholeOf 0) s (read .0) is in
       let h = read .1 e is in
-      told-end full s values (g .has) (g .place) (end-is (h .is) ∙ ap end (getD-take 1 values 0 0 (omega arith))) (h .size)
+      kind-end full s values (g .has) (g .place) (end-is (h .is) ∙ ap end (getD-take 1 values 0 0 (omega arith))) (h .size)
 
   pub end-wrong : r ≡ Wrong → TailAnswers full s Neither values
   end-wrong is =
       let w = is-wrong (keyedOf (bytes "end=") wholeOf 0) s (read .0) is in
-      told-neither full s values (w .0) (end-is (w .1))
+      kind-neither full s values (w .0) (end-is (w .1))
 
   pub end-cut : r ≡ Cut → TailAnswers full s CutOff values
-  end-cut is = told-cut full s values (is-cut (keyedOf (bytes "end=") wholeOf 0) s (read .0) is)
+  end-cut is = kind-cut full s values (is-cut (keyedOf (bytes "end=") wholeOf 0) s (read .0) is)
 
 -- ---- what such an answer says
-module _ (full : Bool) (s : List ℕ) {r : TailLine} (answered : r ≡ toldOf full s) where
+module _ (full : Bool) (s : List ℕ) {r : Kind} (answered : r ≡ kindOf full s) where
   pub tail-cut : r ≡ CutOff → hasOf 10 s ≡ false
-  unfolding toldOf
+  unfolding kindOf
   tail-cut is = pick (hasOf 10 s) (tailOf full (uptoOf 10 s)) (sym is ∙ answered)
     where
-      pick : (h : Bool) (x : Tail) → CutOff ≡ cond h (told x (seekOf 10 s)) CutOff → h ≡ false
+      pick : (h : Bool) (x : Tail) → CutOff ≡ cond h (kindAt x (seekOf 10 s)) CutOff → h ≡ false
       pick true (person m) e = let z : _≡_ {A = ℕ} 0 1 = cc in absurd (omega arith)
       pick true (end n) e = let z : _≡_ {A = ℕ} 0 1 = cc in absurd (omega arith)
       pick true surplus e = let z : _≡_ {A = ℕ} 0 1 = cc in absurd (omega arith)
@@ -126,10 +126,10 @@ module _ (full : Bool) (s : List ℕ) {r : TailLine} (answered : r ≡ toldOf fu
       pick false x e = refl
 
   pub tail-surplus : r ≡ Surplus → (hasOf 10 s ≡ true) × (tailOf full (uptoOf 10 s) ≡ surplus)
-  unfolding toldOf
+  unfolding kindOf
   tail-surplus is = pick (hasOf 10 s) (tailOf full (uptoOf 10 s)) (sym is ∙ answered)
     where
-      pick : (h : Bool) (x : Tail) → Surplus ≡ cond h (told x (seekOf 10 s)) CutOff → (h ≡ true) × (x ≡ surplus)
+      pick : (h : Bool) (x : Tail) → Surplus ≡ cond h (kindAt x (seekOf 10 s)) CutOff → (h ≡ true) × (x ≡ surplus)
       pick true (person m) e = let z : _≡_ {A = ℕ} 0 1 = cc in absurd (omega arith)
       pick true (end n) e = let z : _≡_ {A = ℕ} 0 1 = cc in absurd (omega arith)
       pick true surplus e = (refl, refl)
@@ -137,10 +137,10 @@ module _ (full : Bool) (s : List ℕ) {r : TailLine} (answered : r ≡ toldOf fu
       pick false x e = let z : _≡_ {A = ℕ} 0 1 = cc in absurd (omega arith)
 
   pub tail-neither : r ≡ Neither → (hasOf 10 s ≡ true) × (tailOf full (uptoOf 10 s) ≡ neither)
-  unfolding toldOf
+  unfolding kindOf
   tail-neither is = pick (hasOf 10 s) (tailOf full (uptoOf 10 s)) (sym is ∙ answered)
     where
-      pick : (h : Bool) (x : Tail) → Neither ≡ cond h (told x (seekOf 10 s)) CutOff → (h ≡ true) × (x ≡ neither)
+      pick : (h : Bool) (x : Tail) → Neither ≡ cond h (kindAt x (seekOf 10 s)) CutOff → (h ≡ true) × (x ≡ neither)
       pick true (person m) e = let z : _≡_ {A = ℕ} 0 1 = cc in absurd (omega arith)
       pick true (end n) e = let z : _≡_ {A = ℕ} 0 1 = cc in absurd (omega arith)
       pick true surplus e = let z : _≡_ {A = ℕ} 0 1 = cc in absurd (omega arith)
@@ -148,10 +148,10 @@ module _ (full : Bool) (s : List ℕ) {r : TailLine} (answered : r ≡ toldOf fu
       pick false x e = let z : _≡_ {A = ℕ} 0 1 = cc in absurd (omega arith)
 
   pub tail-person : {e : ℕ} → r ≡ Person e → GoodLine s e
-  unfolding toldOf
+  unfolding kindOf
   tail-person {e} is = let p = pick (hasOf 10 s) (tailOf full (uptoOf 10 s)) (sym is ∙ answered) in good-line s (p .0) (p .1)
     where
-      pick : (h : Bool) (x : Tail) → Person e ≡ cond h (told x (seekOf 10 s)) CutOff → (h ≡ true) × (e ≡ seekOf 10 s)
+      pick : (h : Bool) (x : Tail) → Person e ≡ cond h (kindAt x (seekOf 10 s)) CutOff → (h ≡ true) × (e ≡ seekOf 10 s)
       pick true (person m) is = (refl, (cc))
       pick true (end n) is = let z : _≡_ {A = ℕ} 0 1 = cc in absurd (omega arith)
       pick true surplus is = let z : _≡_ {A = ℕ} 0 1 = cc in absurd (omega arith)
@@ -159,10 +159,10 @@ module _ (full : Bool) (s : List ℕ) {r : TailLine} (answered : r ≡ toldOf fu
       pick false x is = let z : _≡_ {A = ℕ} 0 1 = cc in absurd (omega arith)
 
   pub tail-end : {e : ℕ} → r ≡ End e → GoodLine s e
-  unfolding toldOf
+  unfolding kindOf
   tail-end {e} is = let p = pick (hasOf 10 s) (tailOf full (uptoOf 10 s)) (sym is ∙ answered) in good-line s (p .0) (p .1)
     where
-      pick : (h : Bool) (x : Tail) → End e ≡ cond h (told x (seekOf 10 s)) CutOff → (h ≡ true) × (e ≡ seekOf 10 s)
+      pick : (h : Bool) (x : Tail) → End e ≡ cond h (kindAt x (seekOf 10 s)) CutOff → (h ≡ true) × (e ≡ seekOf 10 s)
       pick true (person m) is = let z : _≡_ {A = ℕ} 0 1 = cc in absurd (omega arith)
       pick true (end n) is = (refl, (cc))
       pick true surplus is = let z : _≡_ {A = ℕ} 0 1 = cc in absurd (omega arith)

@@ -12,22 +12,22 @@ use borrow.Author.Tests.{eq-eqb, ne-eqb, le-leb, lt-leb, eqb-true, eqb-false}
 use Rattle.fields.specs.Split.{hasOf, uptoOf, pastOf}
 use Rattle.plan.specs.declared.Plan.{Plan}
 use Rattle.plan.specs.declared.Member.{Member}
-use Rattle.acceptance.specs.Acceptance.{planFrom, memberRefusal}
+use Rattle.acceptance.specs.Acceptance.{memberRefusal}
 use Rattle.walk.specs.Outcome.{values as held-values, refusal, settled}
 use Rattle.walk.specs.Lines.{Tail, end, mostMembers, memberFrom, tailOf}
-use Rattle.walk.specs.Step.{Head, people, ended as endedState, wrong, right, lastId, personRefusal, tailLine, verdictOf, step}
+use Rattle.walk.specs.Step.{Head, people, ended, wrong, right, lastId, personRefusal, tailLine, verdictOf, step}
 use Rattle.walk.specs.Walk.{caseOf, walkFrom}
 use Rattle.walk.proofs.OutcomeLaws.{settled-none}
 use Rattle.walk.proofs.LineLaws.{from-line, from-end}
 use Rattle.walk.proofs.StepLaws.{full-none}
 use Rattle.stretches.proofs.StretchLaws.{line-cut, line-wrong, line-refused, line-passed, next-rest, next-within}
-use Rattle.members.specs.declared.Line.{Line}
-use Rattle.members.specs.declared.Line.the-variants.{Person, End, Surplus, Neither, Cut}
+use Rattle.members.specs.declared.Kind.{Kind}
+use Rattle.members.specs.declared.Kind.the-variants.{Person, End, Surplus, Neither, Cut}
 use Rattle.members.specs.declared.Count.{Count}
-use Rattle.members.specs.declared.Count.the-variants.{Members, Refused}
-use Rattle.members.specs.Stored.{numbersOf, arrayOf}
-use Rattle.members.specs.Tails.{toldOf, Read}
-use Rattle.members.specs.Stretch.{MembersAre, ended}
+use Rattle.members.specs.declared.Count.the-variants.{Counted, Refused}
+use Rattle.members.specs.Array.{numbersOf, arrayOf}
+use Rattle.members.specs.Tails.{kindOf, TailHeld}
+use Rattle.members.specs.Stretch.{Fits, MembersAre, endCount}
 use Rattle.members.proofs.LineLaws.{tail-cut, tail-surplus, tail-neither, tail-person, tail-end}
 use Rattle.members.proofs.ArrayLaws.{array-next}
 
@@ -44,43 +44,39 @@ full-same count few = ⊎-elim
     (eq-or-lt-of-le few)
 
 -- ---- after the end line
-pub after-end : (ranges : Bool) (k : ℕ) (h : Head) (members : List Member) (s : List ℕ) → walkFrom ranges k (endedState h members) s ≡ cond (eqb (length s) 0) (held-values (caseOf h members)) (refusal 3 k)
+pub after-end : (ranges : Bool) (k : ℕ) (h : Head) (members : List Member) (s : List ℕ) → walkFrom ranges k (ended h members) s ≡ cond (eqb (length s) 0) (held-values (caseOf h members)) (refusal 3 k)
 unfolding verdictOf step hasOf
-after-end ranges k h members [] = from-end ranges k (endedState h members) [] refl
+after-end ranges k h members [] = from-end ranges k (ended h members) [] refl
 after-end ranges k h members (b ∷ s) = pick (hasOf 10 (b ∷ s)) refl
   where
-    pick : (t : Bool) → hasOf 10 (b ∷ s) ≡ t → walkFrom ranges k (endedState h members) (b ∷ s) ≡ cond (eqb (length (b ∷ s)) 0) (held-values (caseOf h members)) (refusal 3 k)
+    pick : (t : Bool) → hasOf 10 (b ∷ s) ≡ t → walkFrom ranges k (ended h members) (b ∷ s) ≡ cond (eqb (length (b ∷ s)) 0) (held-values (caseOf h members)) (refusal 3 k)
     pick true has =
-        from-line ranges k (endedState h members) (b ∷ s) has ∙ rw (settled-none ranges) (simp (eqb·suc-zero (length s)))
-    pick false none = from-end ranges k (endedState h members) (b ∷ s) none
+        from-line ranges k (ended h members) (b ∷ s) has ∙ rw (settled-none ranges) (simp (eqb·suc-zero (length s)))
+    pick false none = from-end ranges k (ended h members) (b ∷ s) none
 
 -- ---- the loop
--- where the ranges are settled, the code's plan and rows are those of the head
-abbrev pub Fits : (ranges : Bool) → Plan → List (List ℕ) → Head → Type 0
-Fits ranges p rows h = ranges ≡ true → (p ≡ planFrom (h .terms)) × (rows ≡ h .rows)
-
 -- so many members are read, and the next line begins at place `at`
-pub record MembersRead (ranges : Bool) (p : Plan) (rows : List (List ℕ)) (from : ℕ) (s : List ℕ) (array : List (List ℕ)) (at count before : ℕ) : Type 0 where
+pub record MembersRead (ranges : Bool) (p : Plan) (rows : List (List ℕ)) (first : ℕ) (s : List ℕ) (array : List (List ℕ)) (at count before : ℕ) : Type 0 where
   pub members : List Member
   pub many : length members ≡ count
   pub few : count ≤ 1000
   pub within : at ≤ length s
   pub id : before ≡ lastId members
   pub held : array ≡ arrayOf members
-  pub way : (h : Head) → Fits ranges p rows h → walkFrom ranges from (people h []) s ≡ walkFrom ranges (from + count) (people h members) (drop at s)
+  pub way : (h : Head) → Fits ranges p rows h → walkFrom ranges first (people h []) s ≡ walkFrom ranges (first + count) (people h members) (drop at s)
 
-pub members-none : (ranges : Bool) (p : Plan) (rows : List (List ℕ)) (from : ℕ) (s : List ℕ) → MembersRead ranges p rows from s (replicate mostMembers (replicate 4 0)) 0 0 0
+pub members-none : (ranges : Bool) (p : Plan) (rows : List (List ℕ)) (first : ℕ) (s : List ℕ) → MembersRead ranges p rows first s (replicate mostMembers (replicate 4 0)) 0 0 0
 unfolding arrayOf
-members-none ranges p rows from s =
-    let here : from + 0 ≡ from = omega arith in
+members-none ranges p rows first s =
+    let here : first + 0 ≡ first = omega arith in
     record { members = []; many = refl; few = omega arith; within = omega arith; id = refl; held = refl; way = λ h fits. rw here }
 
 settled-same : (ranges : Bool) {a b : ℕ} → (ranges ≡ true → a ≡ b) → settled ranges a ≡ settled ranges b
 settled-same true e = e refl
 settled-same false e = refl
 
-module _ {ranges : Bool} {p : Plan} {rows : List (List ℕ)} {from : ℕ} {s : List ℕ} {array : List (List ℕ)} {at count before : ℕ} (i : MembersRead ranges p rows from s array at count before) (values : List ℕ) {rest : List ℕ} (cut : rest ≡ drop at s) {r : Line} (given : (r ≡ toldOf (eqb count 1000) rest) × Read (eqb count 1000) rest r values) where
-  read : (r ≡ toldOf (eqb count 1000) (drop at s)) × Read (eqb count 1000) (drop at s) r values
+module _ {ranges : Bool} {p : Plan} {rows : List (List ℕ)} {first : ℕ} {s : List ℕ} {array : List (List ℕ)} {at count before : ℕ} (i : MembersRead ranges p rows first s array at count before) (values : List ℕ) {rest : List ℕ} (cut : rest ≡ drop at s) {r : Kind} (given : (r ≡ kindOf (eqb count 1000) rest) × TailHeld (eqb count 1000) rest r values) where
+  read : (r ≡ kindOf (eqb count 1000) (drop at s)) × TailHeld (eqb count 1000) (drop at s) r values
   read = rw cut at given
 
   module _ (h : Head) (fits : Fits ranges p rows h) where
@@ -88,19 +84,19 @@ module _ {ranges : Bool} {p : Plan} {rows : List (List ℕ)} {from : ℕ} {s : L
     unfolding verdictOf
     form ahead is = rw (i .many, ← full-same count (i .few), is)
 
-    pub members-cut : r ≡ Cut → walkFrom ranges from (people h []) s ≡ refusal 2 (from + count)
+    pub members-cut : r ≡ Cut → walkFrom ranges first (people h []) s ≡ refusal 2 (first + count)
     members-cut is =
-        i .way h fits ∙ line-cut ranges (from + count) (people h (i .members)) (drop at s) (tail-cut (eqb count 1000) (drop at s) (read .0) is)
+        i .way h fits ∙ line-cut ranges (first + count) (people h (i .members)) (drop at s) (tail-cut (eqb count 1000) (drop at s) (read .0) is)
 
-    pub members-surplus : r ≡ Surplus → walkFrom ranges from (people h []) s ≡ refusal 27 (from + count)
+    pub members-surplus : r ≡ Surplus → walkFrom ranges first (people h []) s ≡ refusal 27 (first + count)
     members-surplus is =
         let w = tail-surplus (eqb count 1000) (drop at s) (read .0) is in
-        i .way h fits ∙ line-wrong ranges (from + count) (people h (i .members)) (drop at s) (w .0) (form (uptoOf 10 (pastOf 10 (drop at s))) (w .1))
+        i .way h fits ∙ line-wrong ranges (first + count) (people h (i .members)) (drop at s) (w .0) (form (uptoOf 10 (pastOf 10 (drop at s))) (w .1))
 
-    pub members-neither : r ≡ Neither → walkFrom ranges from (people h []) s ≡ refusal 20 (from + count)
+    pub members-neither : r ≡ Neither → walkFrom ranges first (people h []) s ≡ refusal 20 (first + count)
     members-neither is =
         let w = tail-neither (eqb count 1000) (drop at s) (read .0) is in
-        i .way h fits ∙ line-wrong ranges (from + count) (people h (i .members)) (drop at s) (w .0) (form (uptoOf 10 (pastOf 10 (drop at s))) (w .1))
+        i .way h fits ∙ line-wrong ranges (first + count) (people h (i .members)) (drop at s) (w .0) (form (uptoOf 10 (pastOf 10 (drop at s))) (w .1))
 
   -- ---- the end
   module _ {e : ℕ} (is : r ≡ End e) where
@@ -111,28 +107,28 @@ module _ {ranges : Bool} {p : Plan} {rows : List (List ℕ)} {from : ℕ} {s : L
     end-size = read .1 .count e is .1
 
     module _ (h : Head) (fits : Fits ranges p rows h) where
-      tail : verdictOf (people h (i .members)) (uptoOf 10 (drop at s)) (uptoOf 10 (pastOf 10 (drop at s))) ≡ cond (eqb (getD values 0 0) count) (right 0 (endedState h (i .members))) (wrong 0 4)
+      tail : verdictOf (people h (i .members)) (uptoOf 10 (drop at s)) (uptoOf 10 (pastOf 10 (drop at s))) ≡ cond (eqb (getD values 0 0) count) (right 0 (ended h (i .members))) (wrong 0 4)
       tail = form h fits (uptoOf 10 (pastOf 10 (drop at s))) (read .1 .count e is .0) ∙ rw (i .many)
 
       -- another count
-      miscounted : (getD values 0 0 ≡ count → ⊥) → walkFrom ranges from (people h []) s ≡ refusal 4 (from + count)
+      miscounted : (getD values 0 0 ≡ count → ⊥) → walkFrom ranges first (people h []) s ≡ refusal 4 (first + count)
       miscounted other =
-          i .way h fits ∙ line-wrong ranges (from + count) (people h (i .members)) (drop at s) (tail-end (eqb count 1000) (drop at s) (read .0) is .has) (tail ∙ rw (ne-eqb (getD values 0 0) count other))
+          i .way h fits ∙ line-wrong ranges (first + count) (people h (i .members)) (drop at s) (tail-end (eqb count 1000) (drop at s) (read .0) is .has) (tail ∙ rw (ne-eqb (getD values 0 0) count other))
 
       -- the count is right: what follows decides
-      counted : getD values 0 0 ≡ count → walkFrom ranges from (people h []) s ≡ cond (eqb (length s - (at + (e + 1))) 0) (held-values (caseOf h (i .members))) (refusal 3 (from + count + 1))
+      counted : getD values 0 0 ≡ count → walkFrom ranges first (people h []) s ≡ cond (eqb (length s - (at + (e + 1))) 0) (held-values (caseOf h (i .members))) (refusal 3 (first + count + 1))
       counted same =
           let g = tail-end (eqb count 1000) (drop at s) (read .0) is in
           i .way h fits
-          ∙ line-passed ranges (from + count) (people h (i .members)) (drop at s) (g .has) (tail ∙ rw (eq-eqb (getD values 0 0) count same)) (sym (settled-none ranges)) refl (next-rest s at e g)
-          ∙ after-end ranges (from + count + 1) h (i .members) (drop (at + (e + 1)) s) ∙ rw (length-drop (at + (e + 1)) s)
+          ∙ line-passed ranges (first + count) (people h (i .members)) (drop at s) (g .has) (tail ∙ rw (eq-eqb (getD values 0 0) count same)) (sym (settled-none ranges)) refl (next-rest s at e g)
+          ∙ after-end ranges (first + count + 1) h (i .members) (drop (at + (e + 1)) s) ∙ rw (length-drop (at + (e + 1)) s)
 
-    pub members-end : {c : Count} (after : ℕ) → after ≡ length s - (at + (e + 1)) → c ≡ ended (getD values 0 0) count (from + count) after → (h : Head) → Fits ranges p rows h → MembersAre ranges h from s c array
+    pub members-end : {c : Count} (after : ℕ) → after ≡ length s - (at + (e + 1)) → c ≡ endCount (getD values 0 0) count (first + count) after → (h : Head) → Fits ranges p rows h → MembersAre ranges h first s c array
     unfolding MembersAre
     members-end {c} after left answer h fits =
         rw (answer, left) (go (eqb (getD values 0 0) count) refl (eqb (length s - (at + (e + 1))) 0) refl)
       where
-        go : (b : Bool) → eqb (getD values 0 0) count ≡ b → (d : Bool) → eqb (length s - (at + (e + 1))) 0 ≡ d → MembersAre ranges h from s (cond b (cond d (Members count) (Refused 3 (from + count + 1))) (Refused 4 (from + count))) array
+        go : (b : Bool) → eqb (getD values 0 0) count ≡ b → (d : Bool) → eqb (length s - (at + (e + 1))) 0 ≡ d → MembersAre ranges h first s (cond b (cond d (Counted count) (Refused 3 (first + count + 1))) (Refused 4 (first + count))) array
         go true b true d =
             record { members = i .members; many = sym (i .many); held = i .held; way = counted h fits (eqb-true _ _ b) ∙ rw d }
         go true b false d = counted h fits (eqb-true _ _ b) ∙ rw d
@@ -153,15 +149,15 @@ module _ {ranges : Bool} {p : Plan} {rows : List (List ℕ)} {from : ℕ} {s : L
       judged : (h : Head) → Fits ranges p rows h → x ≡ settled ranges (personRefusal h (i .members) m)
       judged h fits = rule ∙ settled-same ranges (λ on. let f = fits on in rw (f .0, f .1, i .id))
 
-      pub members-refused : (x ≡ 0 → ⊥) → (h : Head) → Fits ranges p rows h → walkFrom ranges from (people h []) s ≡ refusal x (from + count)
+      pub members-refused : (x ≡ 0 → ⊥) → (h : Head) → Fits ranges p rows h → walkFrom ranges first (people h []) s ≡ refusal x (first + count)
       members-refused some h fits =
-          i .way h fits ∙ line-refused ranges (from + count) (people h (i .members)) (drop at s) (tail-person (eqb count 1000) (drop at s) (read .0) is .has) (good h fits) (judged h fits) some
+          i .way h fits ∙ line-refused ranges (first + count) (people h (i .members)) (drop at s) (tail-person (eqb count 1000) (drop at s) (read .0) is .has) (good h fits) (judged h fits) some
 
-      pub members-next : {array' : List (List ℕ)} → x ≡ 0 → array' ≡ set array count (numbersOf m) → MembersRead ranges p rows from s array' (at + (e + 1)) (count + 1) (m .id)
+      pub members-next : {array' : List (List ℕ)} → x ≡ 0 → array' ≡ set array count (numbersOf m) → MembersRead ranges p rows first s array' (at + (e + 1)) (count + 1) (m .id)
       members-next kept put =
           let g = tail-person (eqb count 1000) (drop at s) (read .0) is in
           let long = length-append (i .members) (m ∷ []) in
-          let place : from + count + 1 ≡ from + (count + 1) = omega arith in
+          let place : first + count + 1 ≡ first + (count + 1) = omega arith in
           record {
             members = i .members ++ m ∷ [];
             many = omega (arith, long, i .many);
@@ -169,5 +165,5 @@ module _ {ranges : Bool} {p : Plan} {rows : List (List ℕ)} {from : ℕ} {s : L
             within = next-within s at e g;
             id = sym (last-id (i .members) m);
             held = put ∙ rw (i .held) (array-next (i .members) m (i .many));
-            way = λ h fits. rw (← place) (i .way h fits ∙ line-passed ranges (from + count) (people h (i .members)) (drop at s) (g .has) (good h fits) (judged h fits) kept (next-rest s at e g));
+            way = λ h fits. rw (← place) (i .way h fits ∙ line-passed ranges (first + count) (people h (i .members)) (drop at s) (g .has) (good h fits) (judged h fits) kept (next-rest s at e g));
           }

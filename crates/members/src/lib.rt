@@ -1,29 +1,29 @@
 // The lines after the rows, RULES section 4: the members and the end.
-use fields::lines::Line as Form;
+use fields::lines::Line;
 use fields::lines::Read;
 use fields::lines::keyed_line;
-use fields::text::from as bytes_from;
+use fields::text::from;
 use fields::text::seek;
 use fields::text::starts;
 use plan::Member;
 use plan::Members;
 use plan::Plan;
 use rates::Rows;
+use rates::Rows;
 ghost use mathlib.Core.Path.{_≡_};
 ghost use mathlib.Core.Bool.{true, false};
 ghost use Prim.Native.Nat.{_+_, _≤_};
 ghost use Rattle.fields.specs.Text.{bytes};
 ghost use Rattle.fields.specs.Split.{startsOf};
-ghost use Rattle.acceptance.specs.Acceptance.{planRefusal, memberRefusal, planFrom};
+ghost use Rattle.acceptance.specs.Acceptance.{planRefusal, memberRefusal};
 ghost use Rattle.walk.specs.Outcome.{settled};
 ghost use Rattle.walk.specs.Lines.{memberFrom};
 ghost use Rattle.walk.specs.Step.{Head};
-ghost use Rattle.members.specs.Tails.{toldOf};
-ghost use Rattle.members.specs.Tails.{Read as Tails·Read};
-ghost use Rattle.members.specs.Stretch.{ended, MembersAre};
+ghost use Rattle.members.specs.Tails.{kindOf, TailHeld};
+ghost use Rattle.members.specs.Stretch.{Fits, MembersAre, endCount};
 
-// What a line after the rows is: a member or the end, with the place of its byte 10; or one of three faults.
-pub enum Line {
+// What kind of line stands after the rows: a member or the end, with the place of its byte 10; or one of three faults.
+pub enum Kind {
     Person(usize),
     End(usize),
     Surplus,
@@ -33,36 +33,36 @@ pub enum Line {
 
 // A line after the rows. When the members are full one more is a surplus (refusal 27). Where the form is right a
 // member's id, entry age, age and salary, or the end line's count, are written to the front of `values`.
-fn tail_line(s: &[u8], full: bool, values: &mut Read) -> Line
-    ensures { λ r. ⌜ r ≡ toldOf full (now (s .entry)) ⌝ }
-    ensures { λ r. ⌜ Tails·Read full (now (s .entry)) r (now (values .exit)) ⌝ }
+fn tail_line(s: &[u8], full: bool, values: &mut Read) -> Kind
+    ensures { λ r. ⌜ r ≡ kindOf full (now (s .entry)) ⌝ }
+    ensures { λ r. ⌜ TailHeld full (now (s .entry)) r (now (values .exit)) ⌝ }
 {
     if full {
         return full_line(s, values);
     }
     match keyed_line(s, b"member=", 3, true, values) {
-        Form::Good(e) => Line::Person(e),
-        Form::Wrong => {
+        Line::Good(e) => Kind::Person(e),
+        Line::Wrong => {
             if starts(s, b"member=") {
-                Line::Neither
+                Kind::Neither
             } else {
                 end_line(s, full, values)
             }
         }
-        Form::Cut => Line::Cut,
+        Line::Cut => Kind::Cut,
     }
 }
 
 // A line after 1,000 members.
-fn full_line(s: &[u8], values: &mut Read) -> Line
-    ensures { λ r. ⌜ r ≡ toldOf true (now (s .entry)) ⌝ }
-    ensures { λ r. ⌜ Tails·Read true (now (s .entry)) r (now (values .exit)) ⌝ }
+fn full_line(s: &[u8], values: &mut Read) -> Kind
+    ensures { λ r. ⌜ r ≡ kindOf true (now (s .entry)) ⌝ }
+    ensures { λ r. ⌜ TailHeld true (now (s .entry)) r (now (values .exit)) ⌝ }
 {
     if starts(s, b"member=") {
         if seek(s, 10) < s.len() {
-            Line::Surplus
+            Kind::Surplus
         } else {
-            Line::Cut
+            Kind::Cut
         }
     } else {
         end_line(s, true, values)
@@ -70,15 +70,15 @@ fn full_line(s: &[u8], values: &mut Read) -> Line
 }
 
 // A line that doesn't begin as a member's.
-fn end_line(s: &[u8], full: bool, values: &mut Read) -> Line
+fn end_line(s: &[u8], full: bool, values: &mut Read) -> Kind
     requires { ⌜ startsOf (bytes "member=") (now s) ≡ false ⌝ }
-    ensures { λ r. ⌜ r ≡ toldOf full (now (s .entry)) ⌝ }
-    ensures { λ r. ⌜ Tails·Read full (now (s .entry)) r (now (values .exit)) ⌝ }
+    ensures { λ r. ⌜ r ≡ kindOf full (now (s .entry)) ⌝ }
+    ensures { λ r. ⌜ TailHeld full (now (s .entry)) r (now (values .exit)) ⌝ }
 {
     match keyed_line(s, b"end=", 0, false, values) {
-        Form::Good(e) => Line::End(e),
-        Form::Wrong => Line::Neither,
-        Form::Cut => Line::Cut,
+        Line::Good(e) => Kind::End(e),
+        Line::Wrong => Kind::Neither,
+        Line::Cut => Kind::Cut,
     }
 }
 
@@ -107,18 +107,18 @@ fn member_refusal(ranges: bool, p: Plan, rows: &Rows, before: u64, m: Member) ->
 
 // The count of members, or the first refusal's number and line.
 pub enum Count {
-    Members(u64),
+    Counted(u64),
     Refused(u64, u64),
 }
 
 // The end line after `count` members, at a line, with so many bytes after it.
-fn ending(n: u64, count: u64, line: u64, after: usize) -> Count
+fn end_count(n: u64, count: u64, line: u64, after: usize) -> Count
     requires { ⌜ line ≤ 1000000 ⌝ }
-    ensures { λ r. ⌜ r ≡ ended n count line after ⌝ }
+    ensures { λ r. ⌜ r ≡ endCount n count line after ⌝ }
 {
     if n == count {
         if after == 0 {
-            Count::Members(count)
+            Count::Counted(count)
         } else {
             Count::Refused(3, line + 1)
         }
@@ -131,14 +131,14 @@ fn ending(n: u64, count: u64, line: u64, after: usize) -> Count
 // After a refusal the array is left open.
 pub fn member_lines(
     s: &[u8],
-    from: u64,
+    first: u64,
     ranges: bool,
     p: Plan,
     rows: &Rows,
     members: &mut Members,
 ) -> Count
-    requires { ⌜ (ranges ≡ true → planRefusal p (now rows) ≡ 0) × (from ≤ 65642) ⌝ }
-    ensures { λ r. ⌜ ((h : Head) → (ranges ≡ true → (p ≡ planFrom (h .terms)) × (now (rows .entry) ≡ h .rows)) → MembersAre ranges h from (now (s .entry)) r (now (members .exit))) ⌝ }
+    requires { ⌜ (ranges ≡ true → planRefusal p (now rows) ≡ 0) × (first ≤ 65642) ⌝ }
+    ensures { λ r. ⌜ ((h : Head) → Fits ranges p (now (rows .entry)) h → MembersAre ranges h first (now (s .entry)) r (now (members .exit))) ⌝ }
 {
     // Nothing that the caller left there is taken for a member.
     *members = [[0u64; 4]; 1000];
@@ -147,9 +147,9 @@ pub fn member_lines(
     let mut count: u64 = 0;
     let mut before: u64 = 0;
     loop {
-        let line = from + count;
-        match tail_line(bytes_from(s, at), count == 1000, &mut values) {
-            Line::Person(e) => {
+        let line = first + count;
+        match tail_line(from(s, at), count == 1000, &mut values) {
+            Kind::Person(e) => {
                 let m = member_from(&values);
                 let refusal = member_refusal(ranges, p, rows, before, m);
                 if refusal != 0 {
@@ -161,17 +161,17 @@ pub fn member_lines(
                 at += e + 1;
                 count += 1;
             }
-            Line::End(e) => {
+            Kind::End(e) => {
                 let after = s.len() - (at + e + 1);
-                return ending(values[0], count, line, after);
+                return end_count(values[0], count, line, after);
             }
-            Line::Surplus => {
+            Kind::Surplus => {
                 return Count::Refused(27, line);
             }
-            Line::Neither => {
+            Kind::Neither => {
                 return Count::Refused(20, line);
             }
-            Line::Cut => {
+            Kind::Cut => {
                 return Count::Refused(2, line);
             }
         }

@@ -12,7 +12,7 @@ use Rattle.rounding.specs.Signed.{integerOf, signed}
 use Rattle.annuity.specs.Factors.{S, C}
 use Rattle.plan.specs.declared.Plan.{Plan}
 use Rattle.plan.specs.declared.Member.{Member}
-use Rattle.members.specs.Stored.{memberAt}
+use Rattle.members.specs.Array.{memberAt}
 use Rattle.printing.specs.Lines.{pairLine}
 use Rattle.printing.specs.Puts.{Puts}
 use Rattle.printing.proofs.AmountLaws.{whole-most}

@@ -1,7 +1,7 @@
 -- The lines of the members, from the two arrays that the code keeps.
 use mathlib.Core.List.{List, [], _++_}
 use Prim.Native.Nat.{ℕ, zero, suc}
-use Rattle.members.specs.Stored.{memberAt}
+use Rattle.members.specs.Array.{memberAt}
 use Rattle.totals.specs.Worked.{figuresIn}
 use Rattle.report.specs.Lines.{figuresLine}
 

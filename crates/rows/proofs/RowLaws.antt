@@ -52,39 +52,39 @@ weight-next rows r old =
     sym (weight-passed (rows ++ r ∷ []) (dueAge rows) old (omega arith)) ∙ ap (λ (row : List ℕ). getD row 3 0) (getD-at rows r [] [] (dueAge rows - 15) place)
 
 -- k rows are read, the next line is `line`, and it begins at place `at`. `rows` is what the lines hold, as wide as it stands there
-pub record RowsRead (ranges : Bool) (from : ℕ) (s : List ℕ) (array : List (List ℕ)) (line at k before : ℕ) : Type 0 where
+pub record RowsRead (ranges : Bool) (first : ℕ) (s : List ℕ) (array : List (List ℕ)) (line at k before : ℕ) : Type 0 where
   pub rows : List (List ℕ)
   pub many : length rows ≡ k
   pub size : length array ≡ 106
   pub few : k ≤ 106
-  pub place : line ≡ from + k
+  pub place : line ≡ first + k
   pub within : at ≤ length s
   pub weighed : before ≡ weightBefore rows (k + 15)
   pub held : take k array ≡ map (map narrowOf) rows
   pub exact : ranges ≡ true → map (map narrowOf) rows ≡ rows
   pub kept : ranges ≡ true → Each rowRefusal rows
-  pub way : (t : List ℕ) → walkFrom ranges from (table (headed t)) s ≡ walkFrom ranges line (afterRow (tabled t rows)) (drop at s)
+  pub way : (t : List ℕ) → walkFrom ranges first (table (headed t)) s ≡ walkFrom ranges line (afterRow (tabled t rows)) (drop at s)
 
-pub rows-none : (ranges : Bool) (from : ℕ) (s : List ℕ) (array : List (List ℕ)) → length array ≡ 106 → RowsRead ranges from s array from 0 0 0
-rows-none ranges from s array size =
+pub rows-none : (ranges : Bool) (first : ℕ) (s : List ℕ) (array : List (List ℕ)) → length array ≡ 106 → RowsRead ranges first s array first 0 0 0
+rows-none ranges first s array size =
     record { rows = []; many = refl; size = size; few = omega arith; place = omega arith; within = omega arith; weighed = refl; held = refl; exact = λ on. refl; kept = λ on. tt; way = λ t. refl }
 
-module _ {ranges : Bool} {from : ℕ} {s : List ℕ} {array : List (List ℕ)} {line at k before : ℕ} (i : RowsRead ranges from s array line at k before) (more : k < 106) (values : List ℕ) {rest : List ℕ} (cut : rest ≡ drop at s) {r : Line} (given : Answers (rowForm (k + 15)) rest r (RowHeld (rowForm (k + 15) (uptoOf 10 rest)) values)) where
+module _ {ranges : Bool} {first : ℕ} {s : List ℕ} {array : List (List ℕ)} {line at k before : ℕ} (i : RowsRead ranges first s array line at k before) (more : k < 106) (values : List ℕ) {rest : List ℕ} (cut : rest ≡ drop at s) {r : Line} (given : Answers (rowForm (k + 15)) rest r (RowHeld (rowForm (k + 15) (uptoOf 10 rest)) values)) where
   read : Answers (rowForm (k + 15)) (drop at s) r (RowHeld (rowForm (k + 15) (uptoOf 10 (drop at s))) values)
   read = rw cut at given
 
   module _ (t : List ℕ) where
-    due : walkFrom ranges from (table (headed t)) s ≡ walkFrom ranges line (table (tabled t (i .rows))) (drop at s)
+    due : walkFrom ranges first (table (headed t)) s ≡ walkFrom ranges line (table (tabled t (i .rows))) (drop at s)
     due = i .way t ∙ simp (ne-eqb (length (i .rows)) ages (λ e. omega (arith, i .many)))
 
-    pub rows-cut : r ≡ Cut → walkFrom ranges from (table (headed t)) s ≡ refusal 2 line
+    pub rows-cut : r ≡ Cut → walkFrom ranges first (table (headed t)) s ≡ refusal 2 line
     rows-cut is = due ∙ line-cut ranges line (table (tabled t (i .rows))) (drop at s) (is-cut (rowForm (k + 15)) (drop at s) (read .0) is)
 
     form : {x : Values} (ahead : List ℕ) → rowForm (k + 15) (uptoOf 10 (drop at s)) ≡ x → verdictOf (table (tabled t (i .rows))) (uptoOf 10 (drop at s)) ahead ≡ rowLine (tabled t (i .rows)) x
     unfolding verdictOf
     form ahead is = rw (i .many, is)
 
-    pub rows-wrong : r ≡ Wrong → walkFrom ranges from (table (headed t)) s ≡ refusal 10 line
+    pub rows-wrong : r ≡ Wrong → walkFrom ranges first (table (headed t)) s ≡ refusal 10 line
     rows-wrong is =
         let w = is-wrong (rowForm (k + 15)) (drop at s) (read .0) is in
         due ∙ line-wrong ranges line (table (tabled t (i .rows))) (drop at s) (w .0) (form (uptoOf 10 (pastOf 10 (drop at s))) (w .1))
@@ -96,14 +96,14 @@ module _ {ranges : Bool} {from : ℕ} {s : List ℕ} {array : List (List ℕ)} {
     good : (t : List ℕ) → verdictOf (table (tabled t (i .rows))) (uptoOf 10 (drop at s)) (uptoOf 10 (pastOf 10 (drop at s))) ≡ right (rowRefusal (i .rows) (fourOf values)) (afterRow (withRow (tabled t (i .rows)) (fourOf values)))
     good t = form t (uptoOf 10 (pastOf 10 (drop at s))) (read .1 e is .is)
 
-    pub rows-refused : (x ≡ 0 → ⊥) → (t : List ℕ) → walkFrom ranges from (table (headed t)) s ≡ refusal x line
+    pub rows-refused : (x ≡ 0 → ⊥) → (t : List ℕ) → walkFrom ranges first (table (headed t)) s ≡ refusal x line
     rows-refused h t =
         due t ∙ line-refused ranges line (table (tabled t (i .rows))) (drop at s) (is-good (rowForm (k + 15)) (drop at s) (read .0) is .has) (good t) judged h
 
     pub rows-place : at + (e + 1) ≤ length s
     rows-place = next-within s at e (is-good (rowForm (k + 15)) (drop at s) (read .0) is)
 
-    pub rows-next : {row : List ℕ} → x ≡ 0 → row ≡ map narrowOf (fourOf values) → RowsRead ranges from s (set array k row) (line + 1) (at + (e + 1)) (k + 1) (getD values 4 0)
+    pub rows-next : {row : List ℕ} → x ≡ 0 → row ≡ map narrowOf (fourOf values) → RowsRead ranges first s (set array k row) (line + 1) (at + (e + 1)) (k + 1) (getD values 4 0)
     rows-next {row} h narrow =
         let four = fourOf values in
         let g = is-good (rowForm (k + 15)) (drop at s) (read .0) is in
@@ -125,7 +125,7 @@ module _ {ranges : Bool} {from : ℕ} {s : List ℕ} {array : List (List ℕ)} {
         }
 
 -- all are read
-pub rows-done : {ranges : Bool} {from : ℕ} {s : List ℕ} {array : List (List ℕ)} {line at k before : ℕ} (i : RowsRead ranges from s array line at k before) → 106 ≤ k → RowsDone ranges from s line at array
+pub rows-done : {ranges : Bool} {first : ℕ} {s : List ℕ} {array : List (List ℕ)} {line at k before : ℕ} (i : RowsRead ranges first s array line at k before) → 106 ≤ k → RowsDone ranges first s line at array
 rows-done {array = array} {k = k} i all =
     let full : length (i .rows) ≡ ages = omega (arith, i .many, i .few) in
     record {

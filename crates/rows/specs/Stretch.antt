@@ -10,21 +10,21 @@ use Rattle.walk.specs.Lines.{ages, rowRefusal}
 use Rattle.walk.specs.Step.{table, people}
 use Rattle.walk.specs.Walk.{walkFrom}
 use Rattle.walk.specs.Kept.{Each}
-use Rattle.stretches.specs.declared.Part.{Part}
-use Rattle.stretches.specs.declared.Part.the-variants.{Done, Refused}
+use Rattle.stretches.specs.declared.Stretch.{Stretch}
+use Rattle.stretches.specs.declared.Stretch.the-variants.{Done, Refused}
 use Rattle.stretches.specs.Heads.{headed, tabled}
 
 -- `rows` are those of the lines, as wide as they stand there; where the ranges are settled the array holds just them
-pub record RowsDone (ranges : Bool) (from : ℕ) (s : List ℕ) (line at : ℕ) (array : List (List ℕ)) : Type 0 where
+pub record RowsDone (ranges : Bool) (first : ℕ) (s : List ℕ) (line at : ℕ) (array : List (List ℕ)) : Type 0 where
   pub rows : List (List ℕ)
   pub size : length rows ≡ ages
   pub kept : ranges ≡ true → Each rowRefusal rows
   pub exact : ranges ≡ true → array ≡ rows
-  pub place : line ≡ from + ages
+  pub place : line ≡ first + ages
   pub within : at ≤ length s
-  pub way : (terms : List ℕ) → walkFrom ranges from (table (headed terms)) s ≡ walkFrom ranges line (people (tabled terms rows) []) (drop at s)
+  pub way : (terms : List ℕ) → walkFrom ranges first (table (headed terms)) s ≡ walkFrom ranges line (people (tabled terms rows) []) (drop at s)
 
-unfoldable pub RowsAre : (ranges : Bool) → (from : ℕ) → List ℕ → Part → List (List ℕ) → Type 0
-RowsAre ranges from s (Done line at) array = RowsDone ranges from s line at array
-RowsAre ranges from s (Refused number line) array =
-    (terms : List ℕ) → walkFrom ranges from (table (headed terms)) s ≡ refusal number line
+unfoldable pub RowsAre : (ranges : Bool) → (first : ℕ) → List ℕ → Stretch → List (List ℕ) → Type 0
+RowsAre ranges first s (Done line at) array = RowsDone ranges first s line at array
+RowsAre ranges first s (Refused number line) array =
+    (terms : List ℕ) → walkFrom ranges first (table (headed terms)) s ≡ refusal number line

@@ -1,12 +1,13 @@
 // The table, RULES section 3: a row for each age from 15 to 120.
 use acceptance::rows::Row;
+use acceptance::rows::Row;
+use acceptance::rows::row_rule;
 use acceptance::rows::row_rule;
 use fields::lines::Line;
 use fields::lines::Read;
 use fields::lines::keyed_line;
-use fields::text::from as bytes_from;
-use rates::Rows;
-use stretches::Part;
+use fields::text::from;
+use stretches::Stretch;
 ghost use mathlib.Core.Path.{_≡_};
 ghost use mathlib.Core.List.{map};
 ghost use Prim.Native.Nat.{ℕ, _≤_};
@@ -79,37 +80,37 @@ fn narrow_row(values: &Read) -> [u32; 4]
 
 // Reads the rows from a line on, up to the first that is refused, and settles their ranges too where that is asked for.
 // After a refusal the table is left open.
-pub fn row_lines(s: &[u8], from: u64, ranges: bool, rows: &mut Rows) -> Part
-    requires { ⌜ from ≤ 65536 ⌝ }
-    ensures { λ r. ⌜ RowsAre ranges from (now (s .entry)) r (now (rows .exit)) ⌝ }
+pub fn row_lines(s: &[u8], first: u64, ranges: bool, rows: &mut Rows) -> Stretch
+    requires { ⌜ first ≤ 65536 ⌝ }
+    ensures { λ r. ⌜ RowsAre ranges first (now (s .entry)) r (now (rows .exit)) ⌝ }
 {
     // Nothing that the caller left there is taken for a row.
     *rows = [[0u32; 4]; 106];
     let mut values = [0u64; 5];
-    let mut line = from;
+    let mut line = first;
     let mut at = 0;
     let mut k: usize = 0;
     let mut before: u64 = 0;
     while k < 106 {
-        match row_line(bytes_from(s, at), k as u64 + 15, &mut values) {
+        match row_line(from(s, at), k as u64 + 15, &mut values) {
             Line::Good(e) => {
                 let refusal = row_refusal(ranges, k + 15, before, &values);
                 if refusal != 0 {
-                    return Part::Refused(refusal, line);
+                    return Stretch::Refused(refusal, line);
                 }
                 rows[k] = narrow_row(&values);
                 before = values[4];
                 at += e + 1;
             }
             Line::Wrong => {
-                return Part::Refused(10, line);
+                return Stretch::Refused(10, line);
             }
             Line::Cut => {
-                return Part::Refused(2, line);
+                return Stretch::Refused(2, line);
             }
         }
         line += 1;
         k += 1;
     }
-    Part::Done(line, at)
+    Stretch::Done(line, at)
 }

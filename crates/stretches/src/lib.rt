@@ -2,8 +2,8 @@
 // given line on given bytes, and answers the line after it and the place where the next part begins. The crates heading, rows
 // and members have a part each, and casefile puts them together. proofs/StretchLaws.antt has how a loop passes a line.
 
-// What a part gives: the line after it and the place where the next part begins; or a refusal's number and line.
-pub enum Part {
+// What a stretch gives: the line after it and the place where the next part begins; or a refusal's number and line.
+pub enum Stretch {
     Done(u64, usize),
     Refused(u64, u64),
 }

@@ -10,7 +10,7 @@ use Rattle.plan.specs.Ranges.{AcceptedMember}
 use Rattle.costs.specs.declared.Figures.{Figures}
 use Rattle.costs.specs.Valuation.{figures}
 use Rattle.walk.specs.Lines.{mostMembers}
-use Rattle.members.specs.Stored.{memberAt}
+use Rattle.members.specs.Array.{memberAt}
 use Rattle.totals.specs.declared.Totals.{Totals}
 
 -- the first n members of an array

@@ -14,7 +14,7 @@ ghost use lib.IntN.{pos, _-ℤ_, _*ℤ_};
 ghost use Rattle.rounding.specs.Nearest.{nearestℤ};
 ghost use Rattle.rounding.specs.Signed.{integerOf, signed};
 ghost use Rattle.annuity.specs.Factors.{S as Factors·S, C};
-ghost use Rattle.members.specs.Stored.{memberAt};
+ghost use Rattle.members.specs.Array.{memberAt};
 ghost use Rattle.totals.specs.Totals.{totals};
 ghost use Rattle.totals.specs.Worked.{AcceptedMembers, figuresIn, membersIn, sumsIn, SmallIn};
 ghost use Rattle.totals.specs.Worked.{AreWorked};

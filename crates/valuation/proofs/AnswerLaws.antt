@@ -11,7 +11,7 @@ use lib.Seq.{sets-eq, take-suc, take-length}
 use Rattle.plan.specs.declared.Plan.{Plan}
 use Rattle.plan.specs.declared.Member.{Member}
 use Rattle.acceptance.proofs.Facts.{member-facts}
-use Rattle.members.specs.Stored.{memberAt, arrayOf}
+use Rattle.members.specs.Array.{memberAt, arrayOf}
 use Rattle.members.proofs.ArrayLaws.{array-member}
 use Rattle.walk.specs.Outcome.{Outcome, values, refusal, andThen}
 use Rattle.walk.specs.Walk.{Case}

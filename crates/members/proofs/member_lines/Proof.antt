@@ -10,11 +10,11 @@ use Rattle.members.proofs.member_lines.Statement.{statement}
 use Rattle.members.proofs.member_lines.Tie as tie
 
 abbrev Inv-loop : tie.InvT-loop
-Inv-loop s from ranges p rows members₀ values₀ at₀ count₀ before₀ members values at count before =
-    MembersRead ranges p rows from s members at count before
+Inv-loop s first ranges p rows members₀ values₀ at₀ count₀ before₀ members values at count before =
+    MembersRead ranges p rows first s members at count before
 
 abbrev μ-loop : tie.MeasureT-loop
-μ-loop s from ranges p rows members₀ values₀ at₀ count₀ before₀ members values at count before = 1000 - count
+μ-loop s first ranges p rows members₀ values₀ at₀ count₀ before₀ members values at count before = 1000 - count
 
 pub member-lines-spec : {M : Type 1} → statement M
 unfolding MembersAre
@@ -41,7 +41,7 @@ member-lines-spec =
     (λ c. omega (arith, end-place (c .before .before .before .before .before .before .loop .inv) (c .before .before .before .tail-line .last .1 .1 .0) (c .before .before .before .before .before .from .ensures) (c .before .before .before .tail-line .ensures) (c .before .e2 .given .1)))
     (λ c. omega (arith, end-size (c .before .before .before .before .before .before .loop .inv) (c .before .before .before .tail-line .last .1 .1 .0) (c .before .before .before .before .before .from .ensures) (c .before .before .before .tail-line .ensures) (c .before .e2 .given .1)))
     (λ c κs. omega (arith, c .before .before .before .before .before .before .loop .inv .few, c .before .before .before .before .before .before .before .before .before .pre .1))
-    (λ c. members-end (c .before .before .before .before .before .before .before .loop .inv) (c .before .before .before .before .tail-line .last .1 .1 .0) (c .before .before .before .before .before .before .from .ensures) (c .before .before .before .before .tail-line .ensures) (c .before .before .e2 .given .1) (length (c .before .before .before .before .before .before .before .before .before .before .args .s .now) - (c .before .before .before .before .before .before .before .loop .at + c .before .before .e2 .given .0 .0 + 1)) (omega arith) (c .ending .ensures))
+    (λ c. members-end (c .before .before .before .before .before .before .before .loop .inv) (c .before .before .before .before .tail-line .last .1 .1 .0) (c .before .before .before .before .before .before .from .ensures) (c .before .before .before .before .tail-line .ensures) (c .before .before .e2 .given .1) (length (c .before .before .before .before .before .before .before .before .before .before .args .s .now) - (c .before .before .before .before .before .before .before .loop .at + c .before .before .e2 .given .0 .0 + 1)) (omega arith) (c .end-count .ensures))
     (λ c. search needs)
     (λ c h fits. members-surplus (c .before .before .before .before .before .loop .inv) (c .before .before .tail-line .last .1 .1 .0) (c .before .before .before .before .from .ensures) (c .before .before .tail-line .ensures) h fits (c .enum-told .given .1))
     (λ c. search needs)

@@ -8,11 +8,11 @@ use Rattle.rows.proofs.row_lines.Statement.{statement}
 use Rattle.rows.proofs.row_lines.Tie as tie
 
 abbrev Inv-loop : tie.InvT-loop
-Inv-loop s from ranges rows₀ values₀ line₀ at₀ k₀ before₀ rows values line at k before =
-    RowsRead ranges from s rows line at k before
+Inv-loop s first ranges rows₀ values₀ line₀ at₀ k₀ before₀ rows values line at k before =
+    RowsRead ranges first s rows line at k before
 
 abbrev μ-loop : tie.MeasureT-loop
-μ-loop s from ranges rows₀ values₀ line₀ at₀ k₀ before₀ rows values line at k before = 106 - k
+μ-loop s first ranges rows₀ values₀ line₀ at₀ k₀ before₀ rows values line at k before = 106 - k
 
 pub row-lines-spec : {M : Type 1} → statement M
 unfolding RowsAre

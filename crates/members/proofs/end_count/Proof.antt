@@ -1,11 +1,11 @@
--- `members::ending` meets its contract.
+-- `members::end_count` meets its contract.
 use native.Mathlib.Omega.{arith}
 use borrow.Author.Tests.{eq-eqb, ne-eqb}
-use Rattle.members.proofs.ending.Statement.{statement}
-use Rattle.members.proofs.ending.Tie as tie
+use Rattle.members.proofs.end_count.Statement.{statement}
+use Rattle.members.proofs.end_count.Tie as tie
 
-pub ending-spec : {M : Type 1} → statement M
-ending-spec =
+pub end-count-spec : {M : Type 1} → statement M
+end-count-spec =
     tie.close
     (tie.spec (λ c. omega (arith, c .before .before .pre))
     (λ c. simp (eq-eqb _ _ (c .before .if1 .taken), eq-eqb _ _ (c .if2 .taken)))
