@@ -1,6 +1,5 @@
 // The heading, RULES section 2: the plan's own terms.
 use acceptance::terms::term_rule;
-use acceptance::terms::term_rule;
 use fields::lines::Line;
 use fields::lines::Read;
 use fields::lines::keyed_line;

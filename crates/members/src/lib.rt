@@ -9,7 +9,6 @@ use plan::Member;
 use plan::Members;
 use plan::Plan;
 use rates::Rows;
-use rates::Rows;
 ghost use mathlib.Core.Path.{_≡_};
 ghost use mathlib.Core.Bool.{true, false};
 ghost use Prim.Native.Nat.{_+_, _≤_};

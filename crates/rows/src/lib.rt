@@ -1,12 +1,11 @@
 // The table, RULES section 3: a row for each age from 15 to 120.
 use acceptance::rows::Row;
-use acceptance::rows::Row;
-use acceptance::rows::row_rule;
 use acceptance::rows::row_rule;
 use fields::lines::Line;
 use fields::lines::Read;
 use fields::lines::keyed_line;
 use fields::text::from;
+use rates::Rows;
 use stretches::Stretch;
 ghost use mathlib.Core.Path.{_≡_};
 ghost use mathlib.Core.List.{map};

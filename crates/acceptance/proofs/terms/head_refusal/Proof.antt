@@ -4,7 +4,7 @@ use mathlib.Core.List.{List, []}
 use Prim.Native.Nat.{ℕ}
 use borrow.Author.Needs.{needs}
 use Rattle.acceptance.specs.Rules.{firstOf}
-use Rattle.acceptance.specs.Acceptance.{judged, termRules, headRules}
+use Rattle.acceptance.specs.Acceptance.{ruled, termRules, headRules}
 use Rattle.acceptance.proofs.terms.head_refusal.Statement.{statement}
 use Rattle.acceptance.proofs.terms.head_refusal.Tie as tie
 
@@ -12,7 +12,7 @@ returns : tie.Need-returns
 unfolding headRules
 returns c =
     c .terms-refusal .ensures
-    ∙ ap (λ (t : List ℕ). firstOf (judged termRules [] t)) (c .before .before .terms-of .ensures)
+    ∙ ap (λ (t : List ℕ). firstOf (ruled termRules [] t)) (c .before .before .terms-of .ensures)
 
 pub head-refusal-spec : {M : Type 1} → statement M
 head-refusal-spec = tie.close (tie.spec (λ c κs. search needs) (λ c κs. search needs) returns)
