@@ -18,14 +18,20 @@ pub use plan::Plan;
 use rates::Rows;
 use report::write_lines;
 use report::write_refusal;
+use rounding::Signed;
+use totals::Totals;
+use totals::Worked;
 use totals::supplemental_of;
 use totals::unfunded_of;
 use totals::work;
 ghost use mathlib.Core.Path.{_≡_};
+ghost use mathlib.Core.List.{_++_};
 ghost use Prim.Native.Nat.{_≤_};
 ghost use lib.ListN.{length};
 ghost use Rattle.walk.specs.Outcome.{refusal};
-ghost use Rattle.report.specs.Lines.{printed, refusalLine};
+ghost use Rattle.rounding.specs.Signed.{integer};
+ghost use Rattle.report.specs.Lines.{planLines, printed, refusalLine};
+ghost use Rattle.report.specs.Worked.{linesIn};
 ghost use Rattle.valuation.specs.Answers.{fitting, valuedOf, answer, buffer, orRefusal, programOf, Writes};
 ghost use Rattle.totals.specs.Worked.{AcceptedMembers, membersIn};
 
@@ -54,25 +60,41 @@ fn value_accepted(p: Plan, rows: Rows, members: &Members, count: u64, out: &mut 
     ensures { λ r. ⌜ r ≡ answer (fitting (length (now (out .entry))) (printed p rows (membersIn (now (members .entry)) count))) ⌝ }
     ensures { λ _. ⌜ now (out .exit) ≡ buffer (fitting (length (now (out .entry))) (printed p rows (membersIn (now (members .entry)) count))) (now (out .entry)) ⌝ }
 {
-    let n = count as usize;
     let mut worked = [[0u64; 4]; 1000];
-    let totals = work(p, rows, members, n, &mut worked);
+    let totals = work(p, rows, members, count as usize, &mut worked);
     let unfunded = unfunded_of(totals.liability, p.assets);
     let supplemental = supplemental_of(unfunded, p.interest, p.years);
+    fit_lines(out, members, &worked, count, totals, unfunded, supplemental)
+}
+
+// Writes all lines of an accepted case where they fit.
+fn fit_lines(
+    out: &mut [u8],
+    members: &Members,
+    worked: &Worked,
+    count: u64,
+    t: Totals,
+    unfunded: Signed,
+    supplemental: Signed,
+) -> Answer
+    requires { ⌜ count ≤ 1000 ⌝ }
+    ensures { λ r. ⌜ r ≡ answer (fitting (length (now (out .entry))) (linesIn (now (members .entry)) (now (worked .entry)) count ++ planLines count t (integer unfunded) (integer supplemental))) ⌝ }
+    ensures { λ _. ⌜ now (out .exit) ≡ buffer (fitting (length (now (out .entry))) (linesIn (now (members .entry)) (now (worked .entry)) count ++ planLines count t (integer unfunded) (integer supplemental))) (now (out .entry)) ⌝ }
+{
     let mut nowhere = [0u8; 0];
     let needed = write_lines(
         &mut nowhere,
         members,
-        &worked,
+        worked,
         count,
-        totals,
+        t,
         unfunded,
         supplemental,
     );
     if out.len() < needed {
         return Answer::Refused(30, 0);
     }
-    let end = write_lines(out, members, &worked, count, totals, unfunded, supplemental);
+    let end = write_lines(out, members, worked, count, t, unfunded, supplemental);
     Answer::Written(end)
 }
 

@@ -1,9 +1,7 @@
 -- `valuation::value_accepted` meets its contract.
 use borrow.Author.Needs.{needs}
-use native.Mathlib.Omega.{arith}
 use Rattle.acceptance.proofs.Facts.{plan-facts}
 use Rattle.report.proofs.PrintedLaws.{printed-is}
-use Rattle.valuation.proofs.AnswerLaws.{too-long, written}
 use Rattle.valuation.proofs.value_accepted.Statement.{statement}
 use Rattle.valuation.proofs.value_accepted.Tie as tie
 
@@ -17,14 +15,7 @@ returns c =
     let a = c .before .before .before .before .before .before .before .before .before .before .args in
     let w = c .before .before .before .before .before .before .before .work in
     let is = printed-is (a .p) (a .rows) (a .members .now) (w .last .1 .1 .1 .1 .0) (a .count) (w .ensures .1) (w .ensures .0) (c .before .before .before .before .before .before .unfunded-of .ensures) (c .before .before .before .before .before .supplemental-of .ensures) in
-    too-long (a .out .now) (rw is at (c .before .before .write-lines .ensures)) (omega (arith, c .if1 .taken))
-
-returns-2 : tie.Need-returns-2
-returns-2 c =
-    let a = c .before .before .before .before .before .before .before .before .before .before .before .before .before .before .before .args in
-    let w = c .before .before .before .before .before .before .before .before .before .before .before .before .work in
-    let is = printed-is (a .p) (a .rows) (a .members .now) (w .last .1 .1 .1 .1 .0) (a .count) (w .ensures .1) (w .ensures .0) (c .before .before .before .before .before .before .before .before .before .before .before .unfunded-of .ensures) (c .before .before .before .before .before .before .before .before .before .before .supplemental-of .ensures) in
-    written (rw is at (c .before .before .before .before .before .before .before .write-lines .ensures)) (omega (arith, c .before .before .before .before .before .if1 .left)) (rw is at (c .before .before .write-lines2 .ensures))
+    rw is at (c .before .before .fit-lines .ensures)
 
 pub value-accepted-spec : {M : Type 1} → statement M
 value-accepted-spec =
@@ -33,9 +24,6 @@ value-accepted-spec =
     (λ c κs. search needs)
     (λ c κs. search needs)
     supplemental-of-requires
-    (λ c. search needs)
-    (λ c κs. search needs)
-    returns
     (λ c κs. search needs)
     (λ c. search needs)
-    returns-2)
+    returns)
