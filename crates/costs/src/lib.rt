@@ -11,6 +11,7 @@ use plan::Member;
 use plan::Method;
 use plan::Plan;
 use plan::acceptance::lone_refusal;
+use rates::Rows;
 ghost use mathlib.Core.Path.{_≡_};
 ghost use Rattle.plan.specs.Acceptance.{AcceptedMember};
 ghost use Rattle.costs.specs.Valuation.{methodOf, figures, valuation, Limited};
@@ -30,7 +31,7 @@ pub enum Valuation {
 }
 
 // Rules 5.5 and 9.11: values a lone member of a plan.
-pub fn value_member(p: Plan, rows: [[u32; 4]; 106], m: Member) -> Valuation
+pub fn value_member(p: Plan, rows: Rows, m: Member) -> Valuation
     ensures figures { λ r. ⌜ r ≡ valuation p rows m ⌝ }
     ensures limits { λ r. ⌜ Limited p rows m r ⌝ }
 {
@@ -42,7 +43,7 @@ pub fn value_member(p: Plan, rows: [[u32; 4]; 106], m: Member) -> Valuation
 }
 
 // The figures of an accepted member at its own age, by the plan's method and by factors of its own.
-pub fn figures_of(p: Plan, rows: [[u32; 4]; 106], m: Member) -> Figures
+pub fn figures_of(p: Plan, rows: Rows, m: Member) -> Figures
     requires { ⌜ AcceptedMember p rows m ⌝ }
     ensures { λ f. ⌜ f ≡ figures p rows m ⌝ }
 {

@@ -1,11 +1,13 @@
 // The plain engine: the parts of a member's figures by factors of its own, each worked once, and only those that the
 // method asks for.
 use crate::parts::Parts;
+use annuity::Factors;
 use plan::Member;
 use plan::Method;
 use plan::Plan;
 use plan::benefit::accrued_benefit;
 use plan::benefit::weights_between;
+use rates::Rows;
 ghost use mathlib.Core.Path.{_≡_};
 ghost use Prim.Native.Nat.{_-_, _≤_, _<_};
 ghost use lib.ListN.{getD};
@@ -17,13 +19,7 @@ ghost use Rattle.costs.specs.Valuation.{caseOf, planBasis};
 ghost use Rattle.costs.specs.Parts.{earned as Parts·earned, added as Parts·added, adds as Parts·adds, divisor as Parts·divisor, partsAt};
 
 // The parts of an accepted member at an age k of its own, by any method.
-pub(crate) fn parts_at(
-    p: Plan,
-    rows: &[[u32; 4]; 106],
-    m: Member,
-    method: Method,
-    k: usize,
-) -> Parts
+pub(crate) fn parts_at(p: Plan, rows: &Rows, m: Member, method: Method, k: usize) -> Parts
     requires { ⌜ AcceptedMember p (now rows) m × (m .entry ≤ k) × (k ≤ p .retire) ⌝ }
     ensures { λ q. ⌜ q ≡ partsAt (caseOf p (now (rows .entry)) m) k method ⌝ }
 {
@@ -45,7 +41,7 @@ pub(crate) fn parts_at(
 }
 
 // What is earned by age e, in the method's own measure.
-fn earned(p: Plan, rows: &[[u32; 4]; 106], m: Member, method: Method, e: usize) -> u64
+fn earned(p: Plan, rows: &Rows, m: Member, method: Method, e: usize) -> u64
     requires { ⌜ AcceptedMember p (now rows) m × (m .entry ≤ e) × (e ≤ p .retire) ⌝ }
     ensures { λ r. ⌜ r ≡ Parts·earned (caseOf p (now (rows .entry)) m) e method ⌝ }
 {
@@ -59,7 +55,7 @@ fn earned(p: Plan, rows: &[[u32; 4]; 106], m: Member, method: Method, e: usize) 
 }
 
 // What the year from age k on adds to what is earned by k: nothing from r on.
-fn added(p: Plan, rows: &[[u32; 4]; 106], m: Member, method: Method, k: usize, earned: u64) -> u64
+fn added(p: Plan, rows: &Rows, m: Member, method: Method, k: usize, earned: u64) -> u64
     requires { ⌜ AcceptedMember p (now rows) m × (m .entry ≤ k) × (earned ≡ Parts·earned (caseOf p (now rows) m) k method) ⌝ }
     ensures { λ r. ⌜ r ≡ Parts·added (caseOf p (now (rows .entry)) m) k method ⌝ }
 {
@@ -70,7 +66,7 @@ fn added(p: Plan, rows: &[[u32; 4]; 106], m: Member, method: Method, k: usize, e
 }
 
 // The same below r. By AB that is B(k+1) less what is earned, so that B(k) is worked once.
-fn adds(p: Plan, rows: &[[u32; 4]; 106], m: Member, method: Method, k: usize, earned: u64) -> u64
+fn adds(p: Plan, rows: &Rows, m: Member, method: Method, k: usize, earned: u64) -> u64
     requires { ⌜ AcceptedMember p (now rows) m × (m .entry ≤ k) × (k < p .retire) × (earned ≡ Parts·earned (caseOf p (now rows) m) k method) ⌝ }
     ensures { λ r. ⌜ r ≡ Parts·adds (caseOf p (now (rows .entry)) m) k method ⌝ }
 {
@@ -84,7 +80,7 @@ fn adds(p: Plan, rows: &[[u32; 4]; 106], m: Member, method: Method, k: usize, ea
 }
 
 // What N and L are divided by.
-fn divisor(p: Plan, rows: &[[u32; 4]; 106], m: Member, method: Method) -> u64
+fn divisor(p: Plan, rows: &Rows, m: Member, method: Method) -> u64
     requires { ⌜ AcceptedMember p (now rows) m ⌝ }
     ensures { λ r. ⌜ r ≡ Parts·divisor (caseOf p (now (rows .entry)) m) method ⌝ }
 {
@@ -98,7 +94,7 @@ fn divisor(p: Plan, rows: &[[u32; 4]; 106], m: Member, method: Method) -> u64
 }
 
 // The weights of the ages from y to e - 1, for an age e of the member.
-fn weights_from_entry(p: Plan, rows: &[[u32; 4]; 106], m: Member, e: usize) -> u64
+fn weights_from_entry(p: Plan, rows: &Rows, m: Member, e: usize) -> u64
     requires { ⌜ AcceptedMember p (now rows) m × (m .entry ≤ e) × (e ≤ p .retire) ⌝ }
     ensures { λ r. ⌜ r ≡ summed (weight (now (rows .entry))) (m .entry) (e - m .entry) ⌝ }
 {
@@ -106,7 +102,7 @@ fn weights_from_entry(p: Plan, rows: &[[u32; 4]; 106], m: Member, e: usize) -> u
 }
 
 // T(y,e), for an age e of the member.
-fn working_from_entry(p: Plan, rows: &[[u32; 4]; 106], m: Member, e: usize) -> u64
+fn working_from_entry(p: Plan, rows: &Rows, m: Member, e: usize) -> u64
     requires { ⌜ AcceptedMember p (now rows) m × (m .entry ≤ e) × (e ≤ p .retire) ⌝ }
     ensures { λ r. ⌜ r ≡ T (planBasis p (now (rows .entry))) (m .entry) e ⌝ }
 {
@@ -115,7 +111,7 @@ fn working_from_entry(p: Plan, rows: &[[u32; 4]; 106], m: Member, e: usize) -> u
 }
 
 // Z(y,e), for an age e of the member.
-fn pay_from_entry(p: Plan, rows: &[[u32; 4]; 106], m: Member, e: usize) -> u64
+fn pay_from_entry(p: Plan, rows: &Rows, m: Member, e: usize) -> u64
     requires { ⌜ AcceptedMember p (now rows) m × (m .entry ≤ e) × (e ≤ p .retire) ⌝ }
     ensures { λ r. ⌜ r ≡ Z (planBasis p (now (rows .entry))) (m .entry) e ⌝ }
 {
@@ -124,7 +120,7 @@ fn pay_from_entry(p: Plan, rows: &[[u32; 4]; 106], m: Member, e: usize) -> u64
 }
 
 // What an array of the ages holds for age k.
-fn of_age(a: &[u64; 106], k: usize) -> u64
+fn of_age(a: &Factors, k: usize) -> u64
     requires { ⌜ (15 ≤ k) × (k ≤ 120) ⌝ }
     ensures { λ r. ⌜ r ≡ getD (now (a .entry)) (k - 15) 0 ⌝ }
 {

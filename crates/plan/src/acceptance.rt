@@ -17,6 +17,7 @@ use crate::rules::unit_rule;
 use crate::rules::unless;
 use crate::rules::unless_between;
 use crate::rules::years_rule;
+use rates::Rows;
 ghost use mathlib.Core.Path.{_≡_};
 ghost use mathlib.Core.Bool.{_&&_};
 ghost use lib.Dec.{leb, ltb};
@@ -39,7 +40,7 @@ pub fn head_refusal(p: Plan) -> u64
 }
 
 // The table, rules 3.2, 3.4 and 3.5.
-pub fn rows_refusal(rows: [[u32; 4]; 106]) -> u64
+pub fn rows_refusal(rows: Rows) -> u64
     ensures { λ r. ⌜ r ≡ rowsRefusal rows 15 106 ⌝ }
 {
     let mut k: usize = 15;
@@ -57,14 +58,14 @@ pub fn rows_refusal(rows: [[u32; 4]; 106]) -> u64
 }
 
 // The heading and the rows.
-pub fn plan_refusal(p: Plan, rows: [[u32; 4]; 106]) -> u64
+pub fn plan_refusal(p: Plan, rows: Rows) -> u64
     ensures { λ r. ⌜ r ≡ planRefusal p rows ⌝ }
 {
     or_else(head_refusal(p), or_else(rows_refusal(rows), 0))
 }
 
 // A member of an accepted plan, after the member with the id `before`. Of its benefit rule 7.8 looks at B(r) alone.
-pub fn member_refusal(p: Plan, rows: &[[u32; 4]; 106], before: u64, m: Member) -> u64
+pub fn member_refusal(p: Plan, rows: &Rows, before: u64, m: Member) -> u64
     requires { ⌜ planRefusal p (now rows) ≡ 0 ⌝ }
     ensures { λ r. ⌜ r ≡ memberRefusal p (now (rows .entry)) before m ⌝ }
 {
@@ -114,14 +115,14 @@ fn answer_of(number: u64) -> Acceptance
 }
 
 // Accepts a plan with its rows.
-pub fn accept_plan(p: Plan, rows: [[u32; 4]; 106]) -> Acceptance
+pub fn accept_plan(p: Plan, rows: Rows) -> Acceptance
     ensures { λ r. ⌜ r ≡ answer (planRefusal p rows) ⌝ }
 {
     answer_of(plan_refusal(p, rows))
 }
 
 // Rules 5.3 and 5.5: a lone member, after its plan.
-pub fn lone_refusal(p: Plan, rows: [[u32; 4]; 106], m: Member) -> u64
+pub fn lone_refusal(p: Plan, rows: Rows, m: Member) -> u64
     ensures { λ r. ⌜ r ≡ loneRefusal p rows m ⌝ }
 {
     let refusal = plan_refusal(p, rows);
@@ -132,7 +133,7 @@ pub fn lone_refusal(p: Plan, rows: [[u32; 4]; 106], m: Member) -> u64
 }
 
 // Accepts a lone member of a plan.
-pub fn accept_member(p: Plan, rows: [[u32; 4]; 106], m: Member) -> Acceptance
+pub fn accept_member(p: Plan, rows: Rows, m: Member) -> Acceptance
     ensures { λ r. ⌜ r ≡ answer (loneRefusal p rows m) ⌝ }
 {
     answer_of(lone_refusal(p, rows, m))
