@@ -3,6 +3,8 @@
 // rules' letters; specs/Accuracy.antt how far apart the two lie. Here they are worked: the rows go by value to the step
 // functions, and one fill, downward from the last age, serves A, G, T and Z. An array has a place for each of the 106
 // ages; age k stands at place k - 15. Each `requires` is what an accepted plan shows.
+use rates::AGES;
+use rates::Rows;
 ghost use mathlib.Core.Path.{_≡_};
 ghost use Prim.Native.Nat.{_+_, _-_, _*_, _≤_, _<_};
 ghost use lib.ListN.{getD};
@@ -16,6 +18,9 @@ ghost use Rattle.annuity.specs.Filled.{Filled, paidOf, factor};
 
 // Rule 8.1: one, in billionths.
 pub const S: u64 = 1_000_000_000;
+
+// Rule 8.9: a factor for each age.
+pub type Factors = [u64; AGES];
 
 // Rule 8.3, the year step: the factor f of age k + 1 as it counts at k, by the row of age k.
 fn step(row: [u32; 4], r: usize, i: u64, k: usize, f: u64) -> u64
@@ -44,18 +49,11 @@ fn amount_of(row: [u32; 4], amount: Amount) -> u64
 }
 
 // Rule 8.9: the factor of each age up to `top`, filled downward from `start` there.
-fn fill(
-    rows: [[u32; 4]; 106],
-    r: usize,
-    i: u64,
-    amount: Amount,
-    top: usize,
-    start: u64,
-) -> [u64; 106]
+fn fill(rows: Rows, r: usize, i: u64, amount: Amount, top: usize, start: u64) -> Factors
     requires { ⌜ Table rows × (i ≤ 2000) × (15 ≤ top) × (top ≤ 120) × (start ≤ 106 * Factors·S) ⌝ }
     ensures { λ a. ⌜ Filled (factor (basis rows r i) amount top start) top 15 a ⌝ }
 {
-    let mut a = [0u64; 106];
+    let mut a = [0u64; AGES];
     let mut j: usize = top - 15;
     a[j] = start;
     while 0 < j {
@@ -68,7 +66,7 @@ fn fill(
 }
 
 // Rule 8.4: A(k) for each age.
-pub fn life_annuity(rows: [[u32; 4]; 106], r: usize, i: u64) -> [u64; 106]
+pub fn life_annuity(rows: Rows, r: usize, i: u64) -> Factors
     requires { ⌜ Table rows × (i ≤ 2000) ⌝ }
     ensures { λ a. ⌜ Filled (Factors·A (basis rows r i)) 120 15 a ⌝ }
 {
@@ -76,7 +74,7 @@ pub fn life_annuity(rows: [[u32; 4]; 106], r: usize, i: u64) -> [u64; 106]
 }
 
 // Rule 8.5, the annuity that a pension is worth at retirement: A(r).
-fn pension(rows: [[u32; 4]; 106], r: usize, i: u64) -> u64
+fn pension(rows: Rows, r: usize, i: u64) -> u64
     requires { ⌜ Table rows × (i ≤ 2000) × (15 ≤ r) × (r ≤ 120) ⌝ }
     ensures { λ p. ⌜ p ≡ Factors·pension (basis rows r i) ⌝ }
 {
@@ -85,7 +83,7 @@ fn pension(rows: [[u32; 4]; 106], r: usize, i: u64) -> u64
 }
 
 // Rule 8.5: G(k) for each age up to r.
-pub fn deferred_annuity(rows: [[u32; 4]; 106], r: usize, i: u64) -> [u64; 106]
+pub fn deferred_annuity(rows: Rows, r: usize, i: u64) -> Factors
     requires { ⌜ Table rows × (i ≤ 2000) × (15 ≤ r) × (r ≤ 120) ⌝ }
     ensures { λ a. ⌜ Filled (G (basis rows r i)) r 15 a ⌝ }
 {
@@ -94,7 +92,7 @@ pub fn deferred_annuity(rows: [[u32; 4]; 106], r: usize, i: u64) -> [u64; 106]
 }
 
 // Rule 8.6: T(k,e) for each age up to e.
-pub fn working_annuity(rows: [[u32; 4]; 106], r: usize, i: u64, e: usize) -> [u64; 106]
+pub fn working_annuity(rows: Rows, r: usize, i: u64, e: usize) -> Factors
     requires { ⌜ Table rows × (i ≤ 2000) × (15 ≤ e) × (e ≤ 120) ⌝ }
     ensures { λ a. ⌜ Filled (λ k. T (basis rows r i) k e) e 15 a ⌝ }
 {
@@ -102,7 +100,7 @@ pub fn working_annuity(rows: [[u32; 4]; 106], r: usize, i: u64, e: usize) -> [u6
 }
 
 // Rule 8.7: Z(k,e) for each age up to e.
-pub fn pay_annuity(rows: [[u32; 4]; 106], r: usize, i: u64, e: usize) -> [u64; 106]
+pub fn pay_annuity(rows: Rows, r: usize, i: u64, e: usize) -> Factors
     requires { ⌜ Table rows × (i ≤ 2000) × (15 ≤ e) × (e ≤ 120) ⌝ }
     ensures { λ a. ⌜ Filled (λ k. Z (basis rows r i) k e) e 15 a ⌝ }
 {

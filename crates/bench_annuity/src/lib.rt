@@ -2,6 +2,9 @@
 // death, withdrawal, disability and weight of each age in turn. An export answers false, and fills nothing, where the
 // table or another argument is not what the annuity functions require; so it requires nothing itself. The program
 // test_annuity_factors tests its tables by `is_table` too.
+use annuity::Factors;
+use rates::AGES;
+use rates::Rows;
 ghost use mathlib.Core.Bool.{true};
 ghost use mathlib.Core.Path.{_≡_};
 ghost use Prim.Native.Nat.{_+_, _≤_};
@@ -55,22 +58,22 @@ pub extern "C" fn bench_annuity_pay_annuity(
     true
 }
 
-fn copy(a: [u64; 106], out: &mut [u64])
+fn copy(a: Factors, out: &mut [u64])
     requires { ⌜ length (now out) ≡ 106 ⌝ }
     ensures { λ _. ⌜ now (out .exit) ≡ a ⌝ }
 {
-    for j in 0..106 {
+    for j in 0..AGES {
         out[j] = a[j];
     }
 }
 
 // The rows of a table.
-pub fn rows_of(numbers: &[u32]) -> [[u32; 4]; 106]
+pub fn rows_of(numbers: &[u32]) -> Rows
     requires { ⌜ length (now numbers) ≡ 424 ⌝ }
     ensures { λ rows. ⌜ rows ≡ rowsOf (now (numbers .entry)) ⌝ }
 {
-    let mut rows = [[0u32; 4]; 106];
-    for j in 0..106 {
+    let mut rows = [[0u32; 4]; AGES];
+    for j in 0..AGES {
         rows[j] = row_at(numbers, 4 * j);
     }
     rows
@@ -89,10 +92,10 @@ fn row_at(numbers: &[u32], at: usize) -> [u32; 4]
 }
 
 // Tells whether the annuity functions take the rows.
-pub fn is_table(rows: [[u32; 4]; 106]) -> bool
+pub fn is_table(rows: Rows) -> bool
     ensures { λ t. ⌜ (t ≡ true → Table rows) ⌝ }
 {
-    for j in 0..106 {
+    for j in 0..AGES {
         if !is_sound(rows[j]) {
             return false;
         }

@@ -6,6 +6,8 @@ use casefile::Accepting;
 use casefile::Reading;
 use costs::Valuation;
 use plan::Member;
+use rates::AGES;
+use rates::Rows;
 use valuation::Answer;
 ghost use mathlib.Core.Path.{_≡_};
 ghost use mathlib.Core.Bool.{false};
@@ -44,7 +46,7 @@ pub extern "C" fn kuyeshan_accept(case: &[u8], line: &mut u64) -> u64
     ensures { λ r. ⌜ r ≡ numberOf (acceptingOf (now (case .entry))) ⌝ }
     ensures { λ _. ⌜ now (line .exit) ≡ lineNumberOf (acceptingOf (now (case .entry))) ⌝ }
 {
-    let mut rows = [[0u32; 4]; 106];
+    let mut rows = [[0u32; 4]; AGES];
     let mut members = [[0u64; 4]; 1000];
     match casefile::accept_case(case, &mut rows, &mut members) {
         Accepting::Accepted(_, _) => {
@@ -114,7 +116,7 @@ pub extern "C" fn kuyeshan_refusal_line(
 #[no_mangle]
 pub extern "C" fn kuyeshan_value_member(
     plan: &[u64; 8],
-    rows: &[[u32; 4]; 106],
+    rows: &Rows,
     member: &[u64; 4],
     figures: &mut [u64; 4],
 ) -> u64

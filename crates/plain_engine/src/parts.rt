@@ -1,4 +1,5 @@
 // The parts of a member's figures by factors of its own, each worked once, and only those that the method asks for.
+use annuity::Factors;
 use costs::parts::Parts;
 use plan::Member;
 use plan::Method;
@@ -118,7 +119,7 @@ fn pay_from_entry(p: Plan, rows: &Rows, m: Member, e: usize) -> u64
 }
 
 // What an array of the ages holds for age k.
-fn of_age(a: &[u64; 106], k: usize) -> u64
+fn of_age(a: &Factors, k: usize) -> u64
     requires { ⌜ (15 ≤ k) × (k ≤ 120) ⌝ }
     ensures { λ r. ⌜ r ≡ getD (now (a .entry)) (k - 15) 0 ⌝ }
 {

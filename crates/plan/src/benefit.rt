@@ -3,6 +3,7 @@ use crate::Formula;
 use crate::Member;
 use crate::Plan;
 use crate::wide;
+use rates::Rows;
 ghost use mathlib.Core.Path.{_≡_};
 ghost use Prim.Native.Nat.{_-_, _*_, _≤_, _<_, min};
 ghost use Rattle.rounding.specs.Nearest.{nearest};
@@ -47,7 +48,7 @@ fn final_average(unit: u64, years: u64, salary: u64, weights: u64, n: u64, now: 
 }
 
 // The weights of the ages from a to b - 1, added up where they stand.
-pub fn weights_between(rows: &[[u32; 4]; 106], a: u64, b: u64) -> u64
+pub fn weights_between(rows: &Rows, a: u64, b: u64) -> u64
     requires { ⌜ Table (now rows) × (15 ≤ a) × (a ≤ b) × (b ≤ 120) ⌝ }
     ensures { λ r. ⌜ r ≡ summed (weight (now (rows .entry))) a (b - a) ⌝ }
 {
@@ -75,7 +76,7 @@ fn first_paid(formula: Formula, average: u64, entry: u64, k: u64) -> u64
 
 // Rules 7.3 to 7.7, B(k): what has accrued by age k. The ages whose pay it rests on go from `first` to k - 1, and `weights`
 // is the sum of theirs.
-fn benefit(p: Plan, rows: &[[u32; 4]; 106], m: Member, k: u64, first: u64, weights: u64) -> u64
+fn benefit(p: Plan, rows: &Rows, m: Member, k: u64, first: u64, weights: u64) -> u64
     requires { ⌜ PlanRanges p (now rows) × InRange p m × (m .entry ≤ k) × (k ≤ p .retire) × (first ≡ firstPaid (formulaOf (p .formula)) (p .average) (m .entry) k) × (weights ≡ summed (weight (now rows)) first (k - first)) ⌝ }
     ensures { λ r. ⌜ r ≡ B p (now (rows .entry)) m k ⌝ }
 {
@@ -95,7 +96,7 @@ fn benefit(p: Plan, rows: &[[u32; 4]; 106], m: Member, k: u64, first: u64, weigh
 }
 
 // B(k), for an age k from entry to retirement.
-pub fn accrued_benefit(p: Plan, rows: &[[u32; 4]; 106], m: Member, k: u64) -> u64
+pub fn accrued_benefit(p: Plan, rows: &Rows, m: Member, k: u64) -> u64
     requires { ⌜ PlanRanges p (now rows) × InRange p m × (m .entry ≤ k) × (k ≤ p .retire) ⌝ }
     ensures { λ r. ⌜ r ≡ B p (now (rows .entry)) m k ⌝ }
 {

@@ -8,8 +8,11 @@ ghost use Rattle.rounding.specs.Nearest.{nearest};
 ghost use Rattle.rates.specs.Rates.{able as Rates·able, stays};
 ghost use Rattle.rates.specs.Table.{Sound, weight as Table·weight};
 
-// Rule 3.1: a row for each age from 15 to 120: three rates and the weight.
-pub type Rows = [[u32; 4]; 106];
+// Rule 3.1: so many ages there are, from 15 to 120.
+pub const AGES: usize = 106;
+
+// Rule 3.1: a row for each age: three rates and the weight.
+pub type Rows = [[u32; 4]; AGES];
 
 // One rate alone, in millionths: of a million, how many are left.
 fn left_by(rate: u32) -> u64
@@ -48,7 +51,7 @@ pub fn staying(row: [u32; 4], r: usize, k: usize) -> u64
 }
 
 // Rule 3.5, W(k): the weight of age k.
-pub fn weight(rows: [[u32; 4]; 106], k: usize) -> u64
+pub fn weight(rows: Rows, k: usize) -> u64
     requires { ⌜ (15 ≤ k) × (k ≤ 120) ⌝ }
     ensures { λ w. ⌜ w ≡ Table·weight rows k ⌝ }
 {

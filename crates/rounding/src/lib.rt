@@ -59,7 +59,7 @@ pub fn mul_div_nearest(a: u64, b: u64, d: u64) -> u64
     wide_div_nearest(words::product(a, b), d)
 }
 
-// a * b * c / d, likewise.
+// a * b * c / d, likewise. No figure has three factors at present (docs/DECISIONS.md says why it stays).
 pub fn mul_mul_div_nearest(a: u64, b: u64, c: u64, d: u64) -> u64
     requires { ⌜ (0 < d) × (nearest (a * b * c) d < 2 ^ 64) ⌝ }
     ensures { λ r. ⌜ r ≡ nearest (a * b * c) d ⌝ }

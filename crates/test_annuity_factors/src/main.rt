@@ -2,8 +2,11 @@
 // letter. A case is bytes, a number's little end first: the interest i in 2, then r, e and m in 1 each, then for each
 // age 15 to 120 its death, withdrawal, disability and weight in 4 each. A case that the annuity functions do not take
 // is skipped. What it must write was made by another program, tests/test_annuity_factors.py.
+use annuity::Factors;
 use libc::STDIN_FILENO;
 use libc::STDOUT_FILENO;
+use rates::AGES;
+use rates::Rows;
 ghost use mathlib.Core.Bool.{true};
 ghost use mathlib.Core.Path.{_≡_};
 ghost use Prim.Native.Nat.{_+_, _≤_, _<_};
@@ -41,7 +44,7 @@ fn answer(bytes: &[u8; SIZE]) {
     write(rows_of(bytes), i, r, e, m);
 }
 
-fn write(rows: [[u32; 4]; 106], i: u64, r: usize, e: usize, m: u64) {
+fn write(rows: Rows, i: u64, r: usize, e: usize, m: u64) {
     if is_case(rows, i, r, e, m) {
         factors(rows, i, r, e, m);
     } else {
@@ -49,7 +52,7 @@ fn write(rows: [[u32; 4]; 106], i: u64, r: usize, e: usize, m: u64) {
     }
 }
 
-fn is_case(rows: [[u32; 4]; 106], i: u64, r: usize, e: usize, m: u64) -> bool
+fn is_case(rows: Rows, i: u64, r: usize, e: usize, m: u64) -> bool
     ensures { λ t. ⌜ (t ≡ true → Question rows i r e m) ⌝ }
 {
     if i > 2000 || m > 40 || r < 15 || r > 120 || e < 15 || e > 120 {
@@ -58,7 +61,7 @@ fn is_case(rows: [[u32; 4]; 106], i: u64, r: usize, e: usize, m: u64) -> bool
     bench_annuity::is_table(rows)
 }
 
-fn factors(rows: [[u32; 4]; 106], i: u64, r: usize, e: usize, m: u64)
+fn factors(rows: Rows, i: u64, r: usize, e: usize, m: u64)
     requires { ⌜ Question rows i r e m ⌝ }
 {
     line(b"A", annuity::life_annuity(rows, r, i), 120);
@@ -71,7 +74,7 @@ fn factors(rows: [[u32; 4]; 106], i: u64, r: usize, e: usize, m: u64)
 }
 
 // The factors of the ages up to `top`.
-fn line(letter: &[u8], factors: [u64; 106], top: usize)
+fn line(letter: &[u8], factors: Factors, top: usize)
     requires { ⌜ top ≤ 120 ⌝ }
 {
     io::write_all(STDOUT_FILENO, letter);
@@ -86,9 +89,9 @@ fn number(n: u64) {
     io::print_decimal(STDOUT_FILENO, n);
 }
 
-fn rows_of(bytes: &[u8; SIZE]) -> [[u32; 4]; 106] {
-    let mut rows = [[0u32; 4]; 106];
-    for j in 0..106 {
+fn rows_of(bytes: &[u8; SIZE]) -> Rows {
+    let mut rows = [[0u32; 4]; AGES];
+    for j in 0..AGES {
         rows[j] = row_at(bytes, ROWS + 16 * j);
     }
     rows

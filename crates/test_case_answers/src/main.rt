@@ -8,6 +8,8 @@ use libc::STDIN_FILENO;
 use libc::STDOUT_FILENO;
 use plan::Members;
 use plan::Plan;
+use rates::AGES;
+use rates::Rows;
 ghost use Prim.Native.Nat.{_<_};
 
 // The longest file that is tried.
@@ -63,7 +65,7 @@ fn reading(case: &[u8]) {
 }
 
 fn accepting(case: &[u8]) {
-    let mut rows = [[0u32; 4]; 106];
+    let mut rows = [[0u32; 4]; AGES];
     let mut members = [[0u64; 4]; 1000];
     match casefile::accept_case(case, &mut rows, &mut members) {
         Accepting::Accepted(p, count) => {
@@ -111,9 +113,9 @@ fn sum(so_far: u64, number: u64) -> u64 {
     (so_far % PRIME * 31 + number % PRIME) % PRIME
 }
 
-fn sum_of_rows(rows: [[u32; 4]; 106]) -> u64 {
+fn sum_of_rows(rows: Rows) -> u64 {
     let mut total = 0;
-    for j in 0..106 {
+    for j in 0..AGES {
         total = sum_of_row(total, rows[j]);
     }
     total

@@ -13,6 +13,8 @@ use libc::STDIN_FILENO;
 use libc::STDOUT_FILENO;
 use plan::Member;
 use plan::Plan;
+use rates::AGES;
+use rates::Rows;
 ghost use Prim.Native.Nat.{_+_, _≤_, _<_};
 
 // How many bytes a case has.
@@ -106,9 +108,9 @@ fn member_of(bytes: &[u8; SIZE]) -> Member {
     }
 }
 
-fn rows_of(bytes: &[u8; SIZE]) -> [[u32; 4]; 106] {
-    let mut rows = [[0u32; 4]; 106];
-    for j in 0..106 {
+fn rows_of(bytes: &[u8; SIZE]) -> Rows {
+    let mut rows = [[0u32; 4]; AGES];
+    for j in 0..AGES {
         rows[j] = row_at(bytes, ROWS + 16 * j);
     }
     rows
