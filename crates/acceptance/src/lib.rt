@@ -1,34 +1,28 @@
-// Accepting a plan, its rows and a member handed in as plain values, rules 5.3 to 5.5: the ranges of RULES sections 2, 3
-// and 4, and rule 7.8, in the order of the lines. A refusal is its number, and 0 is none. refusals.rt has the numbers,
-// rules.rt what a rule is made of, terms.rt and rows.rt the rules of the heading and of the table; a member's are here. specs/
-// has what every contract is an equation with: the numbers in Refusals, what a rule is in Rules, the lists of the rules in
-// Acceptance; and in Rising the law of rule 7.9 for a plan that is accepted.
-pub mod refusals;
-pub mod rows;
-pub mod rules;
-pub mod terms;
-
-use crate::refusals::HIGH_BENEFIT;
-use crate::refusals::WRONG_AGE;
-use crate::refusals::WRONG_ENTRY;
-use crate::refusals::WRONG_ID;
-use crate::refusals::WRONG_SALARY;
-use crate::rows::rows_refusal;
-use crate::rules::between;
-use crate::rules::both;
-use crate::rules::or_else;
-use crate::rules::unless;
-use crate::rules::unless_between;
-use crate::terms::head_refusal;
+// Accepting a plan, its rows and a member handed in as plain values, rules 5.3 to 5.5, in the order of the lines: the rules
+// of the heading and of the table, which crate `rules` has, then those of a member, RULES section 4 and rule 7.8. A refusal is
+// its number, and 0 is none. specs/ has what every contract is an equation with, the order of the rules, in Acceptance; and in
+// Rising the law of rule 7.9 for a plan that is accepted.
 use plan::Member;
 use plan::Plan;
 use plan::benefit::accrued_benefit;
+use rules::between;
+use rules::both;
+use rules::or_else;
+use rules::refusals::HIGH_BENEFIT;
+use rules::refusals::WRONG_AGE;
+use rules::refusals::WRONG_ENTRY;
+use rules::refusals::WRONG_ID;
+use rules::refusals::WRONG_SALARY;
+use rules::rows::rows_refusal;
+use rules::terms::head_refusal;
+use rules::unless;
+use rules::unless_between;
 ghost use mathlib.Core.Path.{_≡_};
 ghost use mathlib.Core.Bool.{_&&_};
 ghost use lib.Dec.{leb, ltb};
-ghost use Rattle.acceptance.specs.Refusals.{wrongId, wrongEntry};
-ghost use Rattle.acceptance.specs.Rules.{firstOf};
-ghost use Rattle.acceptance.specs.Rules.{unless as Rules·unless, between as Rules·between};
+ghost use Rattle.rules.specs.Refusals.{wrongId, wrongEntry};
+ghost use Rattle.rules.specs.Rules.{firstOf};
+ghost use Rattle.rules.specs.Rules.{unless as Rules·unless, between as Rules·between};
 ghost use Rattle.acceptance.specs.Acceptance.{planRefusal, fieldRules, memberRefusal, loneRefusal, answer};
 
 // The heading and the rows.

@@ -13,7 +13,8 @@ use borrow.Author.Tests.{eq-eqb, ne-eqb, le-leb, lt-leb, eqb-true, eqb-false}
 use Rattle.fields.specs.Split.{hasOf, uptoOf, pastOf}
 use Rattle.plan.specs.declared.Plan.{Plan}
 use Rattle.plan.specs.declared.Member.{Member}
-use Rattle.acceptance.specs.Acceptance.{planFrom, memberRefusal}
+use Rattle.rules.specs.Heading.{planFrom}
+use Rattle.acceptance.specs.Acceptance.{memberRefusal}
 use Rattle.walk.specs.Outcome.{values as held-values, refusal, settled}
 use Rattle.walk.specs.Lines.{Tail, end, mostMembers, memberFrom, tailOf}
 use Rattle.walk.specs.Step.{Head, people, ended as endedState, wrong, right, lastId, personRefusal, tailLine, lineOf, step}

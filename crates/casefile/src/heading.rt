@@ -1,6 +1,5 @@
 // The heading, RULES section 2: the plan's own terms.
 use crate::Part;
-use acceptance::terms::term_rule;
 use fields::lines::Line;
 use fields::lines::Read;
 use fields::lines::keyed_line;
@@ -9,12 +8,13 @@ use fields::text::from;
 use fields::text::same;
 use fields::text::seek;
 use plan::Terms;
+use rules::terms::term_rule;
 ghost use mathlib.Core.Path.{_≡_};
 ghost use Prim.Native.Nat.{ℕ};
 ghost use Rattle.fields.specs.declared.lines.Line.the-variants.{Good};
 ghost use Rattle.fields.specs.Split.{uptoOf};
 ghost use Rattle.fields.specs.Values.{Held, lineOf};
-ghost use Rattle.acceptance.specs.Acceptance.{termRule};
+ghost use Rattle.rules.specs.Heading.{termRule};
 ghost use Rattle.walk.specs.Outcome.{settled};
 ghost use Rattle.walk.specs.Terms.{formulaOf, methodOf, termForm};
 ghost use Rattle.casefile.specs.Words.{coded, wordOf};
