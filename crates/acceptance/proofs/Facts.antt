@@ -1,67 +1,27 @@
 -- What is known of a plan and of a member that no rule refuses.
-use mathlib.Core.Path.{_≡_, refl, sym, subst, _∙_}
+use mathlib.Core.Path.{_≡_, subst, _∙_}
 use mathlib.Core.Logic.{⊎-elim}
 use mathlib.Core.Bool.{Bool, true, false, cond, _&&_}
-use mathlib.Core.List.{List, [], _∷_, _++_}
+use mathlib.Core.List.{List, [], _∷_}
 use Prim.Native.Nat.{ℕ, zero, suc, _+_, _≤_, _<_}
 use native.Mathlib.Nat.{eq-or-lt-of-le}
 use native.Mathlib.Omega.{arith}
 use borrow.Author.Tests.{leb-true, ltb-true, eq-eqb, ne-eqb}
 use lib.Dec.{leb, ltb, eqb}
 use Rattle.rates.specs.Rates.{death, withdrawal, disability}
-use Rattle.rates.specs.Table.{row, weight, Sound, Table}
+use Rattle.rates.specs.Table.{row, weight, Sound}
 use Rattle.plan.specs.declared.Plan.{Plan}
 use Rattle.plan.specs.declared.Member.{Member}
-use Rattle.acceptance.specs.Rules.{unless, firstOf, between}
-use Rattle.acceptance.specs.Acceptance.{headRules, rowRules, rowOf, weightBefore, rowsRefusal, planRefusal, fieldRules, benefitRules, memberRefusal, loneRefusal}
+use Rattle.rules.specs.Rules.{firstOf, between}
+use Rattle.rules.specs.Heading.{headRules}
+use Rattle.rules.specs.Table.{rowRules, rowOf, weightBefore, rowsRefusal}
+use Rattle.acceptance.specs.Acceptance.{planRefusal, fieldRules, benefitRules, memberRefusal, loneRefusal}
 use Rattle.plan.specs.Benefit.{B}
 use Rattle.plan.specs.Ranges.{HeadRanges, PlanRanges, InRange, AcceptedMember}
 use Rattle.plan.proofs.RiseLaws.{never-falls, climbing}
 use Rattle.acceptance.specs.Rising.{Accepted-Never-Falls}
-use Rattle.acceptance.proofs.RuleLaws.{weight-passed}
-
--- ---- where nothing is refused, each rule is kept
-abbrev pub All-kept : List ℕ → Type 0
-All-kept [] = Unit {0}
-All-kept (a ∷ later) = (a ≡ 0) × All-kept later
-
-passed : (a x : ℕ) → cond (eqb a 0) x a ≡ 0 → (a ≡ 0) × (x ≡ 0)
-passed zero x e = (refl, e)
-passed (suc a) x e = absurd (let h : suc a ≡ 0 = sym (simp (ne-eqb (suc a) 0 (λ e. omega arith))) ∙ e in omega arith)
-
-pub all-kept : (rules : List ℕ) → firstOf rules ≡ 0 → All-kept rules
-all-kept [] e = tt
-all-kept (a ∷ later) e = let h = passed a (firstOf later) e in (h .0, all-kept later (h .1))
-
--- and where each is kept, nothing is refused
-pub kept-all : (rules : List ℕ) → All-kept rules → firstOf rules ≡ 0
-kept-all [] k = refl
-kept-all (a ∷ rules) k = rw (k .0) (kept-all rules (k .1))
-
--- two lists of rules, one after the other
-pub refusal-of-both : (rules others : List ℕ) → firstOf (rules ++ others) ≡ cond (eqb (firstOf rules) 0) (firstOf others) (firstOf rules)
-refusal-of-both [] others = refl
-refusal-of-both (zero ∷ rules) others = refusal-of-both rules others
-refusal-of-both (suc a ∷ rules) others = simp (ne-eqb (suc a) 0 (λ e. omega arith))
-
-both-refusals : (rules others : List ℕ) → firstOf (rules ++ others) ≡ 0 → (firstOf rules ≡ 0) × (firstOf others ≡ 0)
-both-refusals rules others e = passed (firstOf rules) (firstOf others) (sym (refusal-of-both rules others) ∙ e)
-
-pub kept : (t : Bool) (n : ℕ) → unless t (suc n) ≡ 0 → t ≡ true
-kept true n e = refl
-kept false n e = absurd (omega arith)
-
-apart : false ≡ true → ⊥
-apart e = let z : _≡_ {A = ℕ} 0 1 = cc in omega arith
-
-both-true : (s t : Bool) → (s && t) ≡ true → (s ≡ true) × (t ≡ true)
-both-true true t e = (refl, e)
-both-true false t e = absurd (apart e)
-
-between-true : (lo hi n : ℕ) → between lo hi n ≡ true → (lo ≤ n) × (n ≤ hi)
-between-true lo hi n e =
-    let h = both-true (leb lo n) (leb n hi) e in
-    (leb-true lo n (h .0), leb-true n hi (h .1))
+use Rattle.rules.proofs.RuleLaws.{all-kept, refusal-of-both, both-refusals, kept, both-true, between-true}
+use Rattle.rules.proofs.TableLaws.{weight-passed}
 
 -- ---- the heading
 unit-most : (t : Bool) (u : ℕ) → u ≤ cond t 100000 500 → u ≤ 100000

@@ -1,4 +1,2 @@
--- The laws of the rules, and what accepting shows.
-pub mod RuleLaws
-pub mod TermLaws
+-- What accepting shows.
 pub mod Facts

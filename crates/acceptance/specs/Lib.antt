@@ -1,4 +1,2 @@
-pub mod Refusals
-pub mod Rules
 pub mod Acceptance
 pub mod Rising

@@ -1,45 +1,40 @@
-// Accepting a plan, its rows and a member handed in as plain values, rules 5.3 to 5.5: the ranges of RULES sections 2, 3
-// and 4, and rule 7.8, in the order of the lines. A refusal is its number, and 0 is none. refusals.rt has the numbers,
-// rules.rt what a rule is made of, terms.rt and rows.rt the rules of the heading and of the table; a member's are here. specs/
-// has what every contract is an equation with: the numbers in Refusals, what a rule is in Rules, the lists of the rules in
-// Acceptance; and in Rising the law of rule 7.9 for a plan that is accepted.
-pub mod refusals;
-pub mod rows;
-pub mod rules;
-pub mod terms;
-
-use crate::refusals::HIGH_BENEFIT;
-use crate::refusals::WRONG_AGE;
-use crate::refusals::WRONG_ENTRY;
-use crate::refusals::WRONG_ID;
-use crate::refusals::WRONG_SALARY;
-use crate::rows::rows_refusal;
-use crate::rules::between;
-use crate::rules::both;
-use crate::rules::or_else;
-use crate::rules::unless;
-use crate::rules::unless_between;
-use crate::terms::head_refusal;
+// Accepting a plan, its rows and a member handed in as plain values, rules 5.3 to 5.5, in the order of the lines: the rules
+// of the heading and of the table, which crate `rules` has, then those of a member, RULES section 4 and rule 7.8. A refusal is
+// its number, and 0 is none. specs/ has what every contract is an equation with, the order of the rules, in Acceptance; and in
+// Rising the law of rule 7.9 for a plan that is accepted.
 use plan::Member;
 use plan::Plan;
 use plan::benefit::accrued_benefit;
+use rates::Rows;
+use rules::between;
+use rules::both;
+use rules::or_else;
+use rules::refusals::HIGH_BENEFIT;
+use rules::refusals::WRONG_AGE;
+use rules::refusals::WRONG_ENTRY;
+use rules::refusals::WRONG_ID;
+use rules::refusals::WRONG_SALARY;
+use rules::rows::rows_refusal;
+use rules::terms::head_refusal;
+use rules::unless;
+use rules::unless_between;
 ghost use mathlib.Core.Path.{_≡_};
 ghost use mathlib.Core.Bool.{_&&_};
 ghost use lib.Dec.{leb, ltb};
-ghost use Rattle.acceptance.specs.Refusals.{wrongId, wrongEntry};
-ghost use Rattle.acceptance.specs.Rules.{firstOf};
-ghost use Rattle.acceptance.specs.Rules.{unless as Rules·unless, between as Rules·between};
+ghost use Rattle.rules.specs.Refusals.{wrongId, wrongEntry};
+ghost use Rattle.rules.specs.Rules.{firstOf};
+ghost use Rattle.rules.specs.Rules.{unless as Rules·unless, between as Rules·between};
 ghost use Rattle.acceptance.specs.Acceptance.{planRefusal, fieldRules, memberRefusal, loneRefusal, acceptanceOf};
 
 // The heading and the rows.
-pub fn plan_refusal(p: Plan, rows: [[u32; 4]; 106]) -> u64
+pub fn plan_refusal(p: Plan, rows: Rows) -> u64
     ensures { λ r. ⌜ r ≡ planRefusal p rows ⌝ }
 {
     or_else(head_refusal(p), rows_refusal(rows))
 }
 
 // A member of an accepted plan, after the member with the id `before`. Of its benefit rule 7.8 looks at B(r) alone.
-pub fn member_refusal(p: Plan, rows: &[[u32; 4]; 106], before: u64, m: Member) -> u64
+pub fn member_refusal(p: Plan, rows: &Rows, before: u64, m: Member) -> u64
     requires { ⌜ planRefusal p (now rows) ≡ 0 ⌝ }
     ensures { λ r. ⌜ r ≡ memberRefusal p (now (rows .entry)) before m ⌝ }
 {
@@ -89,14 +84,14 @@ fn answer_of(number: u64) -> Acceptance
 }
 
 // Accepts a plan with its rows.
-pub fn accept_plan(p: Plan, rows: [[u32; 4]; 106]) -> Acceptance
+pub fn accept_plan(p: Plan, rows: Rows) -> Acceptance
     ensures { λ r. ⌜ r ≡ acceptanceOf (planRefusal p rows) ⌝ }
 {
     answer_of(plan_refusal(p, rows))
 }
 
 // Rules 5.3 and 5.5: a lone member, after its plan.
-pub fn lone_refusal(p: Plan, rows: [[u32; 4]; 106], m: Member) -> u64
+pub fn lone_refusal(p: Plan, rows: Rows, m: Member) -> u64
     ensures { λ r. ⌜ r ≡ loneRefusal p rows m ⌝ }
 {
     let refusal = plan_refusal(p, rows);
@@ -107,7 +102,7 @@ pub fn lone_refusal(p: Plan, rows: [[u32; 4]; 106], m: Member) -> u64
 }
 
 // Accepts a lone member of a plan.
-pub fn accept_member(p: Plan, rows: [[u32; 4]; 106], m: Member) -> Acceptance
+pub fn accept_member(p: Plan, rows: Rows, m: Member) -> Acceptance
     ensures { λ r. ⌜ r ≡ acceptanceOf (loneRefusal p rows m) ⌝ }
 {
     answer_of(lone_refusal(p, rows, m))

@@ -7,7 +7,8 @@ use lib.ListN.{length, drop}
 use native.Mathlib.Omega.{arith}
 use borrow.Author.Tests.{lt-ltb, le-ltb}
 use Rattle.plan.specs.declared.Plan.{Plan}
-use Rattle.acceptance.specs.Acceptance.{planFrom, planRefusal}
+use Rattle.rules.specs.Heading.{planFrom}
+use Rattle.acceptance.specs.Acceptance.{planRefusal}
 use Rattle.walk.specs.Outcome.{refusal}
 use Rattle.walk.specs.Terms.{termForms}
 use Rattle.walk.specs.Step.{Head, table}

@@ -2,7 +2,7 @@
 // (rule 5.2). The crate walk says what a case file is; here the walk is done, one part after the other: those of the crates
 // heading, rows and members. The entries are read_case and accept_case: two words, two functions, two answers. Neither has a
 // `requires`.
-use acceptance::terms::plan_from;
+use rules::terms::plan_from;
 use fields::text::from;
 use heading::head_lines;
 use members::Count;

@@ -17,7 +17,9 @@ use Rattle.plan.specs.declared.Formula.the-variants.{Final}
 use Rattle.plan.specs.declared.Method.the-variants.{AB, BD, BP, CD, CP}
 use Rattle.plan.specs.Weights.{summed}
 use Rattle.plan.specs.Benefit.{formulaOf, pay, pays, exactBenefit, B}
-use Rattle.acceptance.specs.Acceptance.{loneRefusal, planRefusal, headRules, rowsRefusal, rowRules, memberRefusal, fieldRules, benefitRules}
+use Rattle.rules.specs.Heading.{headRules}
+use Rattle.rules.specs.Table.{rowsRefusal, rowRules}
+use Rattle.acceptance.specs.Acceptance.{loneRefusal, planRefusal, memberRefusal, fieldRules, benefitRules}
 use Rattle.costs.specs.Setting.{Setting}
 use Rattle.costs.specs.Costs.{W, PV, cost, N, L}
 use Rattle.costs.specs.Valuation.{settingOf}

@@ -13,8 +13,8 @@ use Rattle.fields.specs.declared.lines.Line.the-variants.{Good, Wrong, Cut}
 use Rattle.fields.specs.Split.{uptoOf, pastOf}
 use Rattle.fields.specs.Values.{Values, Held}
 use Rattle.fields.proofs.AnswerLaws.{is-good, is-wrong, is-cut, Answers}
-use Rattle.acceptance.specs.Acceptance.{termRule}
-use Rattle.acceptance.proofs.TermLaws.{only-before}
+use Rattle.rules.specs.Heading.{termRule}
+use Rattle.rules.proofs.TermLaws.{only-before}
 use Rattle.walk.specs.Outcome.{refusal, settled}
 use Rattle.walk.specs.Terms.{termForms, termForm, termRefusal}
 use Rattle.walk.specs.Step.{heading, right, withTerm, afterTerm, termLine, verdictOf}

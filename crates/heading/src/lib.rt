@@ -1,5 +1,5 @@
 // The heading, RULES section 2: the plan's own terms.
-use acceptance::terms::term_rule;
+use rules::terms::term_rule;
 use fields::lines::Line;
 use fields::lines::Read;
 use fields::lines::keyed_line;
@@ -14,7 +14,7 @@ ghost use Prim.Native.Nat.{ℕ};
 ghost use Rattle.fields.specs.declared.lines.Line.the-variants.{Good};
 ghost use Rattle.fields.specs.Split.{uptoOf};
 ghost use Rattle.fields.specs.Values.{Held, lineOf};
-ghost use Rattle.acceptance.specs.Acceptance.{termRule};
+ghost use Rattle.rules.specs.Heading.{termRule};
 ghost use Rattle.walk.specs.Outcome.{settled};
 ghost use Rattle.walk.specs.Terms.{formulaWord, methodWord, termForm};
 ghost use Rattle.heading.specs.Words.{coded, wordOf};

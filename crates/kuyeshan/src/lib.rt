@@ -1,18 +1,18 @@
 // The library for programs in C and Rust: the entries of valuation, casefile and plain_engine, exported under C names. An export
 // answers a refusal's number, 0 for none; a line or a count goes to a place that the caller lends. None has a
 // `requires`, and every place that is lent has its equation on every path. embed/kuyeshan.h declares them for C.
-use acceptance::terms::plan_from;
 use casefile::Accepting;
 use casefile::Reading;
 use costs::Valuation;
 use plan::Member;
 use rates::AGES;
 use rates::Rows;
+use rules::terms::plan_from;
 use valuation::Answer;
 ghost use mathlib.Core.Path.{_≡_};
 ghost use mathlib.Core.Bool.{false};
 ghost use lib.ListN.{length};
-ghost use Rattle.acceptance.specs.Acceptance.{planFrom};
+ghost use Rattle.rules.specs.Heading.{planFrom};
 ghost use Rattle.walk.specs.Walk.{walkOf};
 ghost use Rattle.casefile.specs.Answers.{acceptingOf};
 ghost use Rattle.costs.specs.Valuation.{valuation};

@@ -7,8 +7,8 @@ use lib.ListN.{length}
 use lib.Dec.{eqb}
 use Rattle.plan.specs.declared.Plan.{Plan}
 use Rattle.plan.specs.declared.Member.{Member}
-use Rattle.acceptance.specs.Refusals.{bytesAfter, wrongCount}
-use Rattle.acceptance.specs.Acceptance.{planFrom}
+use Rattle.rules.specs.Refusals.{bytesAfter, wrongCount}
+use Rattle.rules.specs.Heading.{planFrom}
 use Rattle.walk.specs.Outcome.{values, refusal}
 use Rattle.walk.specs.Step.{Head, people}
 use Rattle.walk.specs.Walk.{caseOf, walkFrom}

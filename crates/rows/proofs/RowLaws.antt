@@ -16,10 +16,10 @@ use Rattle.fields.specs.Split.{uptoOf, pastOf}
 use Rattle.fields.specs.Values.{Values}
 use Rattle.fields.proofs.SplitLaws.{and-true-left, and-true-right}
 use Rattle.fields.proofs.AnswerLaws.{is-good, is-wrong, is-cut, Answers}
-use Rattle.acceptance.specs.Rules.{firstOf, between}
-use Rattle.acceptance.specs.Acceptance.{rowRules, rowNumbers, weightBefore}
-use Rattle.acceptance.proofs.RuleLaws.{weight-passed}
-use Rattle.acceptance.proofs.Facts.{all-kept, kept}
+use Rattle.rules.specs.Rules.{firstOf, between}
+use Rattle.rules.specs.Table.{rowRules, rowNumbers, weightBefore}
+use Rattle.rules.proofs.TableLaws.{weight-passed}
+use Rattle.rules.proofs.RuleLaws.{all-kept, kept}
 use Rattle.walk.specs.Outcome.{refusal, settled}
 use Rattle.walk.specs.Lines.{rowForm, ages, dueAge, rowRefusal}
 use Rattle.walk.specs.Step.{table, right, withRow, afterRow, rowLine, verdictOf}

@@ -1,6 +1,6 @@
 // The table, RULES section 3: a row for each age from 15 to 120.
-use acceptance::rows::Row;
-use acceptance::rows::row_rule;
+use rules::rows::Row;
+use rules::rows::row_rule;
 use fields::lines::Line;
 use fields::lines::Read;
 use fields::lines::keyed_line;
@@ -13,8 +13,8 @@ ghost use Prim.Native.Nat.{ℕ, _≤_};
 ghost use Rattle.fields.specs.declared.lines.Line.the-variants.{Good};
 ghost use Rattle.fields.specs.Split.{uptoOf};
 ghost use Rattle.fields.specs.Values.{lineOf};
-ghost use Rattle.acceptance.specs.Rules.{firstOf};
-ghost use Rattle.acceptance.specs.Acceptance.{rowRules, rowNumbers};
+ghost use Rattle.rules.specs.Rules.{firstOf};
+ghost use Rattle.rules.specs.Table.{rowRules, rowNumbers};
 ghost use Rattle.walk.specs.Outcome.{settled};
 ghost use Rattle.walk.specs.Lines.{rowForm};
 ghost use Rattle.rows.specs.Narrow.{fourOf, RowHeld, narrowOf};

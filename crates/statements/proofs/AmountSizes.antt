@@ -15,10 +15,11 @@ use Rattle.annuity.specs.Factors.{S, C}
 use Rattle.annuity.proofs.Sizes.{C-least}
 use Rattle.plan.specs.declared.Plan.{Plan}
 use Rattle.plan.specs.declared.Member.{Member}
-use Rattle.acceptance.specs.Rules.{unless}
+use Rattle.rules.specs.Rules.{unless}
 use Rattle.acceptance.specs.Acceptance.{fieldRules, benefitRules, memberRefusal}
 use Rattle.plan.specs.Ranges.{AcceptedMember}
-use Rattle.acceptance.proofs.Facts.{all-kept, plan-facts, member-facts}
+use Rattle.rules.proofs.RuleLaws.{all-kept}
+use Rattle.acceptance.proofs.Facts.{plan-facts, member-facts}
 use Rattle.costs.specs.declared.Figures.{Figures}
 use Rattle.costs.specs.Valuation.{figures}
 use Rattle.costs.proofs.FigureSizes.{Small, figures-small}

@@ -14,7 +14,7 @@ use Rattle.fields.specs.Numbers.{amountOf}
 use Rattle.fields.specs.Values.{Values, found, misread, keyedOf}
 use Rattle.fields.proofs.SplitLaws.{off}
 use Rattle.plan.specs.declared.Member.{Member}
-use Rattle.acceptance.specs.Refusals.{tooLarge, wrongCount}
+use Rattle.rules.specs.Refusals.{tooLarge, wrongCount}
 use Rattle.walk.specs.Outcome.{values, refusal}
 use Rattle.walk.specs.Lines.{Tail, person, end, surplus, neither, personMade, mostMembers, tailOf}
 use Rattle.walk.specs.Step.{Head, State, heading, table, people, ended, wrong, right, tailLine, verdictOf, step}

@@ -9,10 +9,10 @@ use lib.Dec.{ltb}
 use lib.ListN.{drop}
 use Rattle.plan.specs.declared.Plan.{Plan}
 use Rattle.plan.specs.declared.Member.{Member}
-use Rattle.acceptance.specs.Rules.{unless, firstOf, between}
+use Rattle.rules.specs.Rules.{unless, firstOf, between}
 use Rattle.acceptance.specs.Acceptance.{planRefusal, fieldRules, benefitRules, memberRefusal, loneRefusal}
-use Rattle.acceptance.proofs.Facts.{all-kept}
-use Rattle.acceptance.proofs.RuleLaws.{first-passes, first-alone}
+use Rattle.rules.proofs.RuleLaws.{all-kept}
+use Rattle.rules.proofs.RuleLaws.{first-passes, first-alone}
 
 -- the first rule may be another that is kept
 first-other : (a a' : ℕ) (later : List ℕ) → (a ≡ 0 → a' ≡ 0) → firstOf (a ∷ later) ≡ 0 → firstOf (a' ∷ later) ≡ 0

@@ -14,7 +14,9 @@ use Rattle.annuity.specs.Figures.{short, factors}
 use Rattle.plan.specs.declared.Plan.{Plan}
 use Rattle.plan.specs.Weights.{summed}
 use Rattle.plan.specs.Benefit.{formulaOf, pay, pays, exactBenefit, B}
-use Rattle.acceptance.specs.Acceptance.{loneRefusal, planRefusal, headRules, rowsRefusal, rowRules, memberRefusal, fieldRules, benefitRules}
+use Rattle.rules.specs.Heading.{headRules}
+use Rattle.rules.specs.Table.{rowsRefusal, rowRules}
+use Rattle.acceptance.specs.Acceptance.{loneRefusal, planRefusal, memberRefusal, fieldRules, benefitRules}
 use Rattle.costs.specs.Costs.{PV, cost, N, L}
 use Rattle.costs.specs.Valuation.{methodOf, figuresAt, figures}
 use Rattle.costs.specs.Figures.{short-plan, short-member, figures as member-figures}

@@ -5,7 +5,7 @@ use mathlib.Core.List.{List, _++_}
 use Prim.Native.Nat.{ℕ}
 use lib.Dec.{leb}
 use lib.ListN.{length, drop}
-use Rattle.acceptance.specs.Refusals.{noRoom}
+use Rattle.rules.specs.Refusals.{noRoom}
 use Rattle.walk.specs.Outcome.{Outcome, values, refusal, andThen}
 use Rattle.casefile.specs.Answers.{acceptingOf}
 use Rattle.valuation.specs.declared.Answer.{Answer}

@@ -10,9 +10,11 @@ use lib.Dec.{eqb, ltb}
 use native.Mathlib.Omega.{arith}
 use native.Mathlib.Nat.{add-zero}
 use Rattle.plan.specs.declared.Member.{Member}
-use Rattle.acceptance.specs.Rules.{firstOf}
-use Rattle.acceptance.specs.Acceptance.{TermRule, termRules, termRule, termsOf, ruled, headRules, rowRules, rowNumbers, rowOf as rowIn, weightBefore, rowsRefusal, planRefusal, planFrom}
-use Rattle.acceptance.proofs.Facts.{All-kept, all-kept, kept-all}
+use Rattle.rules.specs.Rules.{firstOf}
+use Rattle.rules.specs.Heading.{TermRule, termRules, termRule, termsOf, ruled, headRules, planFrom}
+use Rattle.rules.specs.Table.{rowRules, rowNumbers, rowOf as rowIn, weightBefore, rowsRefusal}
+use Rattle.acceptance.specs.Acceptance.{planRefusal}
+use Rattle.rules.proofs.RuleLaws.{All-kept, all-kept, kept-all}
 use Rattle.walk.specs.Outcome.{values, refusal}
 use Rattle.walk.specs.Terms.{termForms, termRefusal}
 use Rattle.walk.specs.Lines.{ages, dueAge, rowRefusal}

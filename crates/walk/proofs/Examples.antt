@@ -13,7 +13,8 @@ use Rattle.fields.specs.Numbers.{digitsOf, wholeOf, amountOf}
 use Rattle.fields.specs.Values.{valuesOf, keyedOf}
 use Rattle.plan.specs.declared.Plan.{Plan}
 use Rattle.plan.specs.Benefit.{formulaOf, exactBenefit, B}
-use Rattle.acceptance.specs.Acceptance.{rowRules, fieldRules, benefitRules, memberRefusal}
+use Rattle.rules.specs.Table.{rowRules}
+use Rattle.acceptance.specs.Acceptance.{fieldRules, benefitRules, memberRefusal}
 use Rattle.walk.specs.Outcome.{Outcome, values, refusal}
 use Rattle.walk.specs.Terms.{formulaWord, methodWord, termForms}
 use Rattle.walk.specs.Lines.{rowForm, person, end, surplus, neither, tailOf}

@@ -12,9 +12,11 @@ use Rattle.fields.specs.Split.{sameOf}
 use Rattle.fields.specs.Values.{Values, found, misread}
 use Rattle.plan.specs.declared.Plan.{Plan}
 use Rattle.plan.specs.declared.Member.{Member}
-use Rattle.acceptance.specs.Rules.{unless, firstOf, between}
+use Rattle.rules.specs.Rules.{unless, firstOf, between}
 use Rattle.plan.specs.Benefit.{B}
-use Rattle.acceptance.specs.Acceptance.{TermRule, termRules, formulaIn, formulaRule, methodRule, rowRules, rowNumbers, weightBefore, fieldRules, benefitRules, memberRefusal}
+use Rattle.rules.specs.Heading.{TermRule, termRules, formulaIn, formulaRule, methodRule}
+use Rattle.rules.specs.Table.{rowRules, rowNumbers, weightBefore}
+use Rattle.acceptance.specs.Acceptance.{fieldRules, benefitRules, memberRefusal}
 use Rattle.walk.specs.Terms.{formulaWord, methodWord, termForms, termForm, termRefusal}
 use Rattle.walk.specs.Lines.{dueAge, rowRefusal}
 use Rattle.walk.specs.Answers.{Section, in-heading, in-table, in-members, RangeOf, of-a-term, of-average, of-a-rate, of-death, of-weight, of-id, of-entry, of-age, of-salary, of-benefit}

@@ -14,8 +14,8 @@ use Rattle.fields.specs.Split.{startsOf}
 use Rattle.fields.specs.Numbers.{wholeOf}
 use Rattle.fields.specs.Values.{Values, found, misread, keyedOf}
 use Rattle.plan.specs.declared.Member.{Member}
-use Rattle.acceptance.specs.Refusals.{wrongCount}
-use Rattle.acceptance.specs.Acceptance.{planFrom}
+use Rattle.rules.specs.Refusals.{wrongCount}
+use Rattle.rules.specs.Heading.{planFrom}
 use Rattle.walk.specs.Terms.{termForms, termForm, termRefusal}
 use Rattle.walk.specs.Lines.{rowForm, ages, dueAge, rowRefusal, Tail, person, end, surplus, neither, endMade, mostMembers, tailOf}
 use Rattle.walk.specs.Step.{Head, State, heading, table, people, ended, Verdict, wrong, right, withTerm, termLine, withRow, rowLine, lastId, personRefusal, tailLine, verdictOf}

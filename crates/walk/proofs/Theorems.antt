@@ -8,7 +8,7 @@ use lib.ListN.{length}
 use lib.Dec.{ltb, eqb, eqb·suc-zero}
 use native.Mathlib.Omega.{arith}
 use Rattle.fields.proofs.SplitLaws.{off}
-use Rattle.acceptance.specs.Refusals.{bytesAfter}
+use Rattle.rules.specs.Refusals.{bytesAfter}
 use Rattle.walk.specs.Outcome.{Outcome, values, refusal}
 use Rattle.walk.specs.Terms.{termForms}
 use Rattle.walk.specs.Step.{State, heading, table, people, ended, Verdict, wrong, right, verdictOf, judged, step}

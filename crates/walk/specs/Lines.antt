@@ -9,8 +9,8 @@ use Rattle.fields.specs.Split.{startsOf}
 use Rattle.fields.specs.Numbers.{wholeOf, amountOf}
 use Rattle.fields.specs.Values.{Values, found, misread, keyedOf}
 use Rattle.plan.specs.declared.Member.{Member}
-use Rattle.acceptance.specs.Rules.{firstOf}
-use Rattle.acceptance.specs.Acceptance.{rowRules, rowNumbers, weightBefore}
+use Rattle.rules.specs.Rules.{firstOf}
+use Rattle.rules.specs.Table.{rowRules, rowNumbers, weightBefore}
 
 -- ---- a row
 -- the age that is due, and the four numbers after it

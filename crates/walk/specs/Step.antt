@@ -6,8 +6,9 @@ use lib.ListN.{length, getD}
 use lib.Dec.{leb, eqb}
 use Rattle.fields.specs.Values.{Values, found, misread}
 use Rattle.plan.specs.declared.Member.{Member}
-use Rattle.acceptance.specs.Refusals.{bytesAfter, wrongCount, planForm, memberForm, surplusMember}
-use Rattle.acceptance.specs.Acceptance.{memberRefusal, planFrom}
+use Rattle.rules.specs.Refusals.{bytesAfter, wrongCount, planForm, memberForm, surplusMember}
+use Rattle.rules.specs.Heading.{planFrom}
+use Rattle.acceptance.specs.Acceptance.{memberRefusal}
 use Rattle.walk.specs.Outcome.{Outcome, values, refusal, passing, settled}
 use Rattle.walk.specs.Terms.{termForms, termForm, termRefusal}
 use Rattle.walk.specs.Lines.{rowForm, ages, dueAge, rowRefusal, Tail, person, end, surplus, neither, mostMembers, tailOf}

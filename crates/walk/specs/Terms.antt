@@ -1,4 +1,4 @@
--- The heading, RULES section 2: the forms of its lines. The rule of a term is the crate plan's `termRule` of the same place.
+-- The heading, RULES section 2: the forms of its lines. The rule of a term is the crate rules' `termRule` of the same place.
 use Prim.Native.Nat.{ℕ, _+_}
 use mathlib.Core.List.{List, [], _∷_}
 use mathlib.Core.Bool.{cond}
@@ -7,7 +7,7 @@ use Rattle.fields.specs.Text.{bytes}
 use Rattle.fields.specs.Split.{sameOf}
 use Rattle.fields.specs.Numbers.{wholeOf, amountOf}
 use Rattle.fields.specs.Values.{Values, found, misread, keyedOf}
-use Rattle.acceptance.specs.Acceptance.{termRule}
+use Rattle.rules.specs.Heading.{termRule}
 
 -- rules 2.4, 2.7 and 5.4: one of some words, and its code, which is its place among them from 1 on
 abbrev pub codedFrom : (code : ℕ) → (words : List (List ℕ)) → List ℕ → Values

@@ -7,9 +7,9 @@ use lib.Dec.{ltb, eqb}
 use Rattle.fields.specs.Split.{hasOf}
 use Rattle.plan.specs.declared.Plan.{Plan}
 use Rattle.plan.specs.declared.Member.{Member}
-use Rattle.acceptance.specs.Refusals.{tooLarge, cutOff, bytesAfter}
+use Rattle.rules.specs.Refusals.{tooLarge, cutOff, bytesAfter}
 use Rattle.walk.specs.Outcome.{Outcome, values, refusal, andThen}
-use Rattle.acceptance.specs.Acceptance.{planFrom}
+use Rattle.rules.specs.Heading.{planFrom}
 use Rattle.walk.specs.Step.{Head, State, heading, table, people, ended, step}
 
 -- what the lines of a case file hold

@@ -1,6 +1,6 @@
 -- `acceptance::fields_refusal` meets its contract.
 use Rattle.acceptance.specs.Acceptance.{fieldRules}
-use Rattle.acceptance.proofs.RuleLaws.{in-order, last-in-order}
+use Rattle.rules.proofs.RuleLaws.{in-order, last-in-order}
 use Rattle.acceptance.proofs.fields_refusal.Statement.{statement}
 use Rattle.acceptance.proofs.fields_refusal.Tie as tie
 

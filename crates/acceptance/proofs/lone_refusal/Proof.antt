@@ -3,7 +3,7 @@ use native.Mathlib.Omega.{arith}
 use mathlib.Core.Path.{sym, _∙_}
 use mathlib.Core.List.{_∷_, []}
 use Rattle.acceptance.specs.Acceptance.{planRefusal, memberRefusal, loneRefusal}
-use Rattle.acceptance.proofs.RuleLaws.{first-refuses, first-passes, first-alone}
+use Rattle.rules.proofs.RuleLaws.{first-refuses, first-passes, first-alone}
 use Rattle.acceptance.proofs.lone_refusal.Statement.{statement}
 use Rattle.acceptance.proofs.lone_refusal.Tie as tie
 

@@ -4,10 +4,10 @@ use Prim.Native.Nat.{ℕ}
 use native.Mathlib.Nat.{le-refl, le-of-lt}
 use lib.Dec.{leb}
 use Rattle.plan.specs.Benefit.{B}
-use Rattle.acceptance.specs.Refusals.{highBenefit}
-use Rattle.acceptance.specs.Rules.{unless}
+use Rattle.rules.specs.Refusals.{highBenefit}
+use Rattle.rules.specs.Rules.{unless}
 use Rattle.acceptance.specs.Acceptance.{benefitRules}
-use Rattle.acceptance.proofs.RuleLaws.{first-alone}
+use Rattle.rules.proofs.RuleLaws.{first-alone}
 use Rattle.acceptance.proofs.Facts.{plan-facts, placed-facts, fields-refused, fields-kept}
 use Rattle.acceptance.proofs.member_refusal.Statement.{statement}
 use Rattle.acceptance.proofs.member_refusal.Tie as tie

@@ -1,6 +1,6 @@
 -- `acceptance::plan_refusal` meets its contract.
 use Rattle.acceptance.specs.Acceptance.{planRefusal}
-use Rattle.acceptance.proofs.RuleLaws.{last-in-order}
+use Rattle.rules.proofs.RuleLaws.{last-in-order}
 use Rattle.acceptance.proofs.plan_refusal.Statement.{statement}
 use Rattle.acceptance.proofs.plan_refusal.Tie as tie
 

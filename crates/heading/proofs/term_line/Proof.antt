@@ -3,7 +3,7 @@ use mathlib.Core.Path.{refl}
 use native.Mathlib.Omega.{arith}
 use borrow.Author.Needs.{needs}
 use Rattle.fields.proofs.SplitLaws.{has-lacks}
-use Rattle.acceptance.proofs.TermLaws.{past}
+use Rattle.rules.proofs.TermLaws.{past}
 use Rattle.walk.specs.Terms.{termForms}
 use Rattle.heading.proofs.LineLaws.{no-form}
 use Rattle.heading.proofs.term_line.Statement.{statement}

@@ -1,0 +1,4 @@
+-- The laws of the rules.
+pub mod RuleLaws
+pub mod TableLaws
+pub mod TermLaws

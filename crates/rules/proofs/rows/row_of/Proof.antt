@@ -1,0 +1,18 @@
+-- `rules::rows::row_of` meets its contract.
+use native.Mathlib.Omega.{arith}
+use Rattle.rules.proofs.rows.row_of.Statement.{statement}
+use Rattle.rules.proofs.rows.row_of.Tie as tie
+
+returns : tie.Need-returns
+returns c =
+    λ i. record {
+      death = c .before .before .before .wide .ensures i;
+      withdrawal = c .before .before .wide2 .ensures i;
+      disability = c .before .wide3 .ensures i;
+      weight = c .wide4 .ensures i;
+    }
+
+pub row-of-spec : {M : Type 1} → statement M
+row-of-spec =
+    tie.close (tie.spec (omega arith) (search) (omega arith) (search) (omega arith) (search) (omega arith) (search)
+    returns)
