@@ -29,7 +29,7 @@ ghost use mathlib.Core.List.{_++_};
 ghost use Prim.Native.Nat.{_≤_};
 ghost use lib.ListN.{length};
 ghost use Rattle.walk.specs.Outcome.{refusal};
-ghost use Rattle.rounding.specs.Signed.{integer};
+ghost use Rattle.rounding.specs.Signed.{integerOf};
 ghost use Rattle.report.specs.Lines.{planLines, printed, refusalLine};
 ghost use Rattle.report.specs.Worked.{linesIn};
 ghost use Rattle.valuation.specs.Answers.{fitting, valuedOf, answer, buffer, orRefusal, programOf, Writes};
@@ -78,8 +78,8 @@ fn fit_lines(
     supplemental: Signed,
 ) -> Answer
     requires { ⌜ count ≤ 1000 ⌝ }
-    ensures { λ r. ⌜ r ≡ answer (fitting (length (now (out .entry))) (linesIn (now (members .entry)) (now (worked .entry)) count ++ planLines count t (integer unfunded) (integer supplemental))) ⌝ }
-    ensures { λ _. ⌜ now (out .exit) ≡ buffer (fitting (length (now (out .entry))) (linesIn (now (members .entry)) (now (worked .entry)) count ++ planLines count t (integer unfunded) (integer supplemental))) (now (out .entry)) ⌝ }
+    ensures { λ r. ⌜ r ≡ answer (fitting (length (now (out .entry))) (linesIn (now (members .entry)) (now (worked .entry)) count ++ planLines count t (integerOf unfunded) (integerOf supplemental))) ⌝ }
+    ensures { λ _. ⌜ now (out .exit) ≡ buffer (fitting (length (now (out .entry))) (linesIn (now (members .entry)) (now (worked .entry)) count ++ planLines count t (integerOf unfunded) (integerOf supplemental))) (now (out .entry)) ⌝ }
 {
     let mut nowhere = [0u8; 0];
     let needed = write_lines(
