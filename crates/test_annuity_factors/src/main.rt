@@ -2,8 +2,11 @@
 // letter. A case is bytes, a number's little end first: the interest i in 2, then r, e and m in 1 each, then for each
 // age 15 to 120 its death, withdrawal, disability and weight in 4 each. A case that the annuity functions do not take
 // is skipped. What it must write was made by another program, tests/test_annuity_factors.py.
+use annuity::Rows;
 use libc::STDIN_FILENO;
 use libc::STDOUT_FILENO;
+use test_support::rows_at;
+use test_support::wide;
 ghost use mathlib.Core.Bool.{true};
 ghost use mathlib.Core.Path.{_≡_};
 ghost use Prim.Native.Nat.{_+_, _≤_, _<_};
@@ -38,10 +41,10 @@ fn answer(bytes: &[u8; SIZE]) {
     let r = age(bytes[2]);
     let e = age(bytes[3]);
     let m = wide(bytes[4]);
-    write(rows_of(bytes), i, r, e, m);
+    write(rows_at(bytes, ROWS), i, r, e, m);
 }
 
-fn write(rows: [[u32; 4]; 106], i: u64, r: usize, e: usize, m: u64) {
+fn write(rows: Rows, i: u64, r: usize, e: usize, m: u64) {
     if is_case(rows, i, r, e, m) {
         factors(rows, i, r, e, m);
     } else {
@@ -49,7 +52,7 @@ fn write(rows: [[u32; 4]; 106], i: u64, r: usize, e: usize, m: u64) {
     }
 }
 
-fn is_case(rows: [[u32; 4]; 106], i: u64, r: usize, e: usize, m: u64) -> bool
+fn is_case(rows: Rows, i: u64, r: usize, e: usize, m: u64) -> bool
     ensures { λ t. ⌜ (t ≡ true → Case rows i r e m) ⌝ }
 {
     if i > 2000 || m > 40 || r < 15 || r > 120 || e < 15 || e > 120 {
@@ -58,7 +61,7 @@ fn is_case(rows: [[u32; 4]; 106], i: u64, r: usize, e: usize, m: u64) -> bool
     bench_annuity::is_table(rows)
 }
 
-fn factors(rows: [[u32; 4]; 106], i: u64, r: usize, e: usize, m: u64)
+fn factors(rows: Rows, i: u64, r: usize, e: usize, m: u64)
     requires { ⌜ Case rows i r e m ⌝ }
 {
     line(b"A", annuity::life_annuity(rows, r, i), 120);
@@ -84,38 +87,6 @@ fn line(letter: &[u8], factors: [u64; 106], top: usize)
 fn number(n: u64) {
     io::write_all(STDOUT_FILENO, b" ");
     io::print_decimal(STDOUT_FILENO, n);
-}
-
-fn rows_of(bytes: &[u8; SIZE]) -> [[u32; 4]; 106] {
-    let mut rows = [[0u32; 4]; 106];
-    for j in 0..106 {
-        rows[j] = row_at(bytes, ROWS + 16 * j);
-    }
-    rows
-}
-
-fn row_at(bytes: &[u8; SIZE], at: usize) -> [u32; 4]
-    requires { ⌜ at + 16 ≤ 1701 ⌝ }
-{
-    let death = number_at(bytes, at);
-    let withdrawal = number_at(bytes, at + 4);
-    let disability = number_at(bytes, at + 8);
-    let weight = number_at(bytes, at + 12);
-    [death, withdrawal, disability, weight]
-}
-
-fn number_at(bytes: &[u8; SIZE], at: usize) -> u32
-    requires { ⌜ at + 4 ≤ 1701 ⌝ }
-{
-    let low = wide(bytes[at]) + 256 * wide(bytes[at + 1]);
-    let high = wide(bytes[at + 2]) + 256 * wide(bytes[at + 3]);
-    (low + 65_536 * high) as u32
-}
-
-fn wide(x: u8) -> u64
-    ensures { λ r. ⌜ r < 256 ⌝ }
-{
-    x as u64
 }
 
 fn age(x: u8) -> usize {

@@ -13,6 +13,10 @@ use plan::Plan;
 use plan::acceptance::Acceptance;
 use plan::acceptance::accept_member;
 use plan::acceptance::accept_plan;
+use test_support::next;
+use test_support::number_at;
+use test_support::refused;
+use test_support::rows_at;
 ghost use Prim.Native.Nat.{_+_, _≤_, _<_};
 
 // How many bytes a case has.
@@ -44,7 +48,7 @@ fn case() -> bool {
 
 fn answer(bytes: &[u8; SIZE]) {
     let p = plan_of(bytes);
-    let rows = rows_of(bytes);
+    let rows = rows_at(bytes, ROWS);
     let m = member_of(bytes);
     accepting(accept_plan(p, rows));
     accepting(accept_member(p, rows, m));
@@ -72,18 +76,6 @@ fn figures(f: Figures) {
     io::write_all(STDOUT_FILENO, b"\n");
 }
 
-fn next(number: u64) {
-    io::write_all(STDOUT_FILENO, b",");
-    io::print_decimal(STDOUT_FILENO, number);
-}
-
-fn refused(number: u64, line: u64) {
-    io::write_all(STDOUT_FILENO, b"refused=");
-    io::print_decimal(STDOUT_FILENO, number);
-    next(line);
-    io::write_all(STDOUT_FILENO, b"\n");
-}
-
 fn plan_of(bytes: &[u8; SIZE]) -> Plan {
     Plan {
         interest: long_at(bytes, 0),
@@ -106,24 +98,6 @@ fn member_of(bytes: &[u8; SIZE]) -> Member {
     }
 }
 
-fn rows_of(bytes: &[u8; SIZE]) -> [[u32; 4]; 106] {
-    let mut rows = [[0u32; 4]; 106];
-    for j in 0..106 {
-        rows[j] = row_at(bytes, ROWS + 16 * j);
-    }
-    rows
-}
-
-fn row_at(bytes: &[u8; SIZE], at: usize) -> [u32; 4]
-    requires { ⌜ at + 16 ≤ 1792 ⌝ }
-{
-    let death = number_at(bytes, at);
-    let withdrawal = number_at(bytes, at + 4);
-    let disability = number_at(bytes, at + 8);
-    let weight = number_at(bytes, at + 12);
-    [death, withdrawal, disability, weight]
-}
-
 // A number of 8 bytes.
 fn long_at(bytes: &[u8; SIZE], at: usize) -> u64
     requires { ⌜ at + 8 ≤ 1792 ⌝ }
@@ -131,21 +105,6 @@ fn long_at(bytes: &[u8; SIZE], at: usize) -> u64
     let low = long(number_at(bytes, at));
     let high = long(number_at(bytes, at + 4));
     low + 4_294_967_296 * high
-}
-
-// A number of 4 bytes.
-fn number_at(bytes: &[u8; SIZE], at: usize) -> u32
-    requires { ⌜ at + 4 ≤ 1792 ⌝ }
-{
-    let low = wide(bytes[at]) + 256 * wide(bytes[at + 1]);
-    let high = wide(bytes[at + 2]) + 256 * wide(bytes[at + 3]);
-    (low + 65_536 * high) as u32
-}
-
-fn wide(x: u8) -> u64
-    ensures { λ r. ⌜ r < 256 ⌝ }
-{
-    x as u64
 }
 
 fn long(x: u32) -> u64
