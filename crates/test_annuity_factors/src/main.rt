@@ -1,7 +1,7 @@
 // Reads cases from standard input, one after another, and writes the factors of each: A, G, T, Z and C, a line for each
 // letter. A case is bytes, a number's little end first: the interest i in 2, then r, e and m in 1 each, then for each
 // age 15 to 120 its death, withdrawal, disability and weight in 4 each. A case that the annuity functions do not take
-// is skipped. What it must write was made by another program, tests/test_annuity_factors.py.
+// is skipped. What it must write was made by another program, tests/annuity_factors.py.
 use annuity::Rows;
 use libc::STDIN_FILENO;
 use libc::STDOUT_FILENO;

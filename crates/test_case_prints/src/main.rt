@@ -1,7 +1,7 @@
 // Reads case files from standard input, each after its length and the length of an output buffer, 4 bytes each with the
 // little end first. For each it writes a line, what `valuation::print_case` answers, and then the bytes of the buffer and
 // the 16 that follow it, all of which it had filled with the byte 165. What it must write was made by another program,
-// tests/test_case_prints.py.
+// tests/case_prints.py.
 use libc::STDIN_FILENO;
 use libc::STDOUT_FILENO;
 use test_support::number_at;

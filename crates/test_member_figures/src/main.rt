@@ -3,7 +3,7 @@
 // `refused=` its number and its line. A case is bytes, a number's little end first: the plan's interest, retire, formula,
 // unit, average, method, assets and years in 8 each, then for each age 15 to 120 its death, withdrawal, disability and
 // weight in 4 each, then the member's id, entry, age and salary in 8 each. What it must write was made by another
-// program, tests/test_member_figures.py.
+// program, tests/member_figures.py.
 use costs::Figures;
 use costs::Valuation;
 use libc::STDIN_FILENO;
