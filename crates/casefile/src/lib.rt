@@ -2,7 +2,6 @@
 // (rule 5.2). The crate walk says what a case file is; here the walk is done, one part after the other: those of the crates
 // heading, rows and members. The entries are read_case and accept_case: two words, two functions, two answers. Neither has a
 // `requires`.
-use rules::terms::plan_from;
 use fields::text::from;
 use heading::head_lines;
 use members::Count;
@@ -12,6 +11,7 @@ use plan::Plan;
 use plan::Terms;
 use rates::Rows;
 use rows::row_lines;
+use rules::terms::plan_from;
 use stretches::Stretch;
 ghost use mathlib.Core.Path.{_≡_};
 ghost use Rattle.casefile.specs.Answers.{readingOf, acceptingOf, accepting};

@@ -1,5 +1,4 @@
 // The heading, RULES section 2: the plan's own terms.
-use rules::terms::term_rule;
 use fields::lines::Line;
 use fields::lines::Read;
 use fields::lines::keyed_line;
@@ -8,6 +7,7 @@ use fields::text::from;
 use fields::text::same;
 use fields::text::seek;
 use plan::Terms;
+use rules::terms::term_rule;
 use stretches::Stretch;
 ghost use mathlib.Core.Path.{_≡_};
 ghost use Prim.Native.Nat.{ℕ};

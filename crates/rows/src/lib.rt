@@ -1,11 +1,11 @@
 // The table, RULES section 3: a row for each age from 15 to 120.
-use rules::rows::Row;
-use rules::rows::row_rule;
 use fields::lines::Line;
 use fields::lines::Read;
 use fields::lines::keyed_line;
 use fields::text::from;
 use rates::Rows;
+use rules::rows::Row;
+use rules::rows::row_rule;
 use stretches::Stretch;
 ghost use mathlib.Core.Path.{_≡_};
 ghost use mathlib.Core.List.{map};

@@ -1,12 +1,13 @@
 // Reads cases from standard input, one after another, and writes the factors of each: A, G, T, Z and C, a line for each
 // letter. A case is bytes, a number's little end first: the interest i in 2, then r, e and m in 1 each, then for each
 // age 15 to 120 its death, withdrawal, disability and weight in 4 each. A case that the annuity functions do not take
-// is skipped. What it must write was made by another program, tests/test_annuity_factors.py.
+// is skipped. What it must write was made by another program, tests/annuity_factors.py.
 use annuity::Factors;
 use libc::STDIN_FILENO;
 use libc::STDOUT_FILENO;
-use rates::AGES;
 use rates::Rows;
+use test_support::rows_at;
+use test_support::wide;
 ghost use mathlib.Core.Bool.{true};
 ghost use mathlib.Core.Path.{_≡_};
 ghost use Prim.Native.Nat.{_+_, _≤_, _<_};
@@ -41,7 +42,7 @@ fn answer(bytes: &[u8; SIZE]) {
     let r = age(bytes[2]);
     let e = age(bytes[3]);
     let m = wide(bytes[4]);
-    write(rows_of(bytes), i, r, e, m);
+    write(rows_at(bytes, ROWS), i, r, e, m);
 }
 
 fn write(rows: Rows, i: u64, r: usize, e: usize, m: u64) {
@@ -87,38 +88,6 @@ fn line(letter: &[u8], factors: Factors, top: usize)
 fn number(n: u64) {
     io::write_all(STDOUT_FILENO, b" ");
     io::print_decimal(STDOUT_FILENO, n);
-}
-
-fn rows_of(bytes: &[u8; SIZE]) -> Rows {
-    let mut rows = [[0u32; 4]; AGES];
-    for j in 0..AGES {
-        rows[j] = row_at(bytes, ROWS + 16 * j);
-    }
-    rows
-}
-
-fn row_at(bytes: &[u8; SIZE], at: usize) -> [u32; 4]
-    requires { ⌜ at + 16 ≤ 1701 ⌝ }
-{
-    let death = number_at(bytes, at);
-    let withdrawal = number_at(bytes, at + 4);
-    let disability = number_at(bytes, at + 8);
-    let weight = number_at(bytes, at + 12);
-    [death, withdrawal, disability, weight]
-}
-
-fn number_at(bytes: &[u8; SIZE], at: usize) -> u32
-    requires { ⌜ at + 4 ≤ 1701 ⌝ }
-{
-    let low = wide(bytes[at]) + 256 * wide(bytes[at + 1]);
-    let high = wide(bytes[at + 2]) + 256 * wide(bytes[at + 3]);
-    (low + 65_536 * high) as u32
-}
-
-fn wide(x: u8) -> u64
-    ensures { λ r. ⌜ r < 256 ⌝ }
-{
-    x as u64
 }
 
 fn age(x: u8) -> usize {

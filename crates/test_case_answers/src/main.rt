@@ -10,7 +10,9 @@ use plan::Members;
 use plan::Plan;
 use rates::AGES;
 use rates::Rows;
-ghost use Prim.Native.Nat.{_<_};
+use test_support::next;
+use test_support::number_at;
+use test_support::refused;
 
 // The longest file that is tried.
 const SIZE: usize = 70_000;
@@ -32,7 +34,7 @@ fn case() -> bool {
     if io::read_full(STDIN_FILENO, &mut length) < 4 {
         return false;
     }
-    let n = wide(length[0]) + 256 * wide(length[1]) + 65_536 * wide(length[2]);
+    let n = number_at(&length, 0) as usize;
     let mut bytes = [0u8; SIZE];
     of_length(&mut bytes, n)
 }
@@ -96,18 +98,6 @@ fn term(number: u64) {
     io::write_all(STDOUT_FILENO, b",");
 }
 
-fn next(number: u64) {
-    io::write_all(STDOUT_FILENO, b",");
-    io::print_decimal(STDOUT_FILENO, number);
-}
-
-fn refused(number: u64, line: u64) {
-    io::write_all(STDOUT_FILENO, b"refused=");
-    io::print_decimal(STDOUT_FILENO, number);
-    next(line);
-    io::write_all(STDOUT_FILENO, b"\n");
-}
-
 // The sum so far, with one number more.
 fn sum(so_far: u64, number: u64) -> u64 {
     (so_far % PRIME * 31 + number % PRIME) % PRIME
@@ -147,10 +137,4 @@ fn sum_of_member(so_far: u64, member: [u64; 4]) -> u64 {
 
 fn number(x: u32) -> u64 {
     x as u64
-}
-
-fn wide(x: u8) -> usize
-    ensures { λ r. ⌜ r < 256 ⌝ }
-{
-    x as usize
 }

@@ -1,12 +1,13 @@
 // Reads case files from standard input, each after its length and the length of an output buffer, 4 bytes each with the
 // little end first. For each it writes a line, what `valuation::print_case` answers, and then the bytes of the buffer and
 // the 16 that follow it, all of which it had filled with the byte 165. What it must write was made by another program,
-// tests/test_case_prints.py.
+// tests/case_prints.py.
 use libc::STDIN_FILENO;
 use libc::STDOUT_FILENO;
+use test_support::number_at;
+use test_support::refused;
 use valuation::Answer;
 use valuation::print_case;
-ghost use Prim.Native.Nat.{_<_};
 
 // The longest file that is tried.
 const LARGEST: usize = 70_000;
@@ -31,8 +32,8 @@ fn case() -> bool {
     if io::read_full(STDIN_FILENO, &mut lengths) < 8 {
         return false;
     }
-    let n = wide(lengths[0]) + 256 * wide(lengths[1]) + 65_536 * wide(lengths[2]);
-    let room = wide(lengths[4]) + 256 * wide(lengths[5]) + 65_536 * wide(lengths[6]);
+    let n = number_at(&lengths, 0) as usize;
+    let room = number_at(&lengths, 4) as usize;
     let mut bytes = [0u8; LARGEST];
     let mut out = [165u8; ROOM];
     of_length(&mut bytes, n, &mut out, room + AFTER)
@@ -76,19 +77,8 @@ fn answer(said: Answer) {
         Answer::Written(n) => {
             io::write_all(STDOUT_FILENO, b"written=");
             io::print_decimal(STDOUT_FILENO, n as u64);
+            io::write_all(STDOUT_FILENO, b"\n");
         }
-        Answer::Refused(number, line) => {
-            io::write_all(STDOUT_FILENO, b"refused=");
-            io::print_decimal(STDOUT_FILENO, number);
-            io::write_all(STDOUT_FILENO, b",");
-            io::print_decimal(STDOUT_FILENO, line);
-        }
+        Answer::Refused(number, line) => refused(number, line),
     }
-    io::write_all(STDOUT_FILENO, b"\n");
-}
-
-fn wide(x: u8) -> usize
-    ensures { λ r. ⌜ r < 256 ⌝ }
-{
-    x as usize
 }

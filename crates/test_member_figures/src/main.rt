@@ -3,7 +3,7 @@
 // `refused=` its number and its line. A case is bytes, a number's little end first: the plan's interest, retire, formula,
 // unit, average, method, assets and years in 8 each, then for each age 15 to 120 its death, withdrawal, disability and
 // weight in 4 each, then the member's id, entry, age and salary in 8 each. What it must write was made by another
-// program, tests/test_member_figures.py.
+// program, tests/member_figures.py.
 use acceptance::Acceptance;
 use acceptance::accept_member;
 use acceptance::accept_plan;
@@ -13,8 +13,10 @@ use libc::STDIN_FILENO;
 use libc::STDOUT_FILENO;
 use plan::Member;
 use plan::Plan;
-use rates::AGES;
-use rates::Rows;
+use test_support::next;
+use test_support::number_at;
+use test_support::refused;
+use test_support::rows_at;
 ghost use Prim.Native.Nat.{_+_, _≤_, _<_};
 
 // How many bytes a case has.
@@ -46,7 +48,7 @@ fn case() -> bool {
 
 fn answer(bytes: &[u8; SIZE]) {
     let p = plan_of(bytes);
-    let rows = rows_of(bytes);
+    let rows = rows_at(bytes, ROWS);
     let m = member_of(bytes);
     accepting(accept_plan(p, rows));
     accepting(accept_member(p, rows, m));
@@ -74,18 +76,6 @@ fn figures(f: Figures) {
     io::write_all(STDOUT_FILENO, b"\n");
 }
 
-fn next(number: u64) {
-    io::write_all(STDOUT_FILENO, b",");
-    io::print_decimal(STDOUT_FILENO, number);
-}
-
-fn refused(number: u64, line: u64) {
-    io::write_all(STDOUT_FILENO, b"refused=");
-    io::print_decimal(STDOUT_FILENO, number);
-    next(line);
-    io::write_all(STDOUT_FILENO, b"\n");
-}
-
 fn plan_of(bytes: &[u8; SIZE]) -> Plan {
     Plan {
         interest: long_at(bytes, 0),
@@ -108,24 +98,6 @@ fn member_of(bytes: &[u8; SIZE]) -> Member {
     }
 }
 
-fn rows_of(bytes: &[u8; SIZE]) -> Rows {
-    let mut rows = [[0u32; 4]; AGES];
-    for j in 0..AGES {
-        rows[j] = row_at(bytes, ROWS + 16 * j);
-    }
-    rows
-}
-
-fn row_at(bytes: &[u8; SIZE], at: usize) -> [u32; 4]
-    requires { ⌜ at + 16 ≤ 1792 ⌝ }
-{
-    let death = number_at(bytes, at);
-    let withdrawal = number_at(bytes, at + 4);
-    let disability = number_at(bytes, at + 8);
-    let weight = number_at(bytes, at + 12);
-    [death, withdrawal, disability, weight]
-}
-
 // A number of 8 bytes.
 fn long_at(bytes: &[u8; SIZE], at: usize) -> u64
     requires { ⌜ at + 8 ≤ 1792 ⌝ }
@@ -133,21 +105,6 @@ fn long_at(bytes: &[u8; SIZE], at: usize) -> u64
     let low = long(number_at(bytes, at));
     let high = long(number_at(bytes, at + 4));
     low + 4_294_967_296 * high
-}
-
-// A number of 4 bytes.
-fn number_at(bytes: &[u8; SIZE], at: usize) -> u32
-    requires { ⌜ at + 4 ≤ 1792 ⌝ }
-{
-    let low = wide(bytes[at]) + 256 * wide(bytes[at + 1]);
-    let high = wide(bytes[at + 2]) + 256 * wide(bytes[at + 3]);
-    (low + 65_536 * high) as u32
-}
-
-fn wide(x: u8) -> u64
-    ensures { λ r. ⌜ r < 256 ⌝ }
-{
-    x as u64
 }
 
 fn long(x: u32) -> u64

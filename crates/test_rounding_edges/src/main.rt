@@ -1,5 +1,5 @@
 // Runs the products, divisions and roundings at the edges of 32 and 64 bits and writes what they answer, a line for
-// each choice of factors and divisor. What it must write was made by another program, tests/test_rounding_edges.py.
+// each choice of factors and divisor. What it must write was made by another program, tests/rounding_edges.py.
 use division::Division;
 use division::words;
 use libc::STDOUT_FILENO;
