@@ -2,7 +2,8 @@
 use annuity::Rows;
 use fields::lines::Line as Form;
 use fields::lines::Read;
-use fields::lines::keyed_line;
+use fields::lines::four_values;
+use fields::lines::one_value;
 use fields::text::from as bytes_from;
 use fields::text::seek;
 use fields::text::starts;
@@ -40,7 +41,7 @@ fn tail_line(s: &[u8], full: bool, values: &mut Read) -> Line
     if full {
         return full_line(s, values);
     }
-    match keyed_line(s, b"member=", 3, true, values) {
+    match four_values(s, b"member=", values) {
         Form::Good(e) => Line::Person(e),
         Form::Wrong => {
             if starts(s, b"member=") {
@@ -75,7 +76,7 @@ fn end_line(s: &[u8], full: bool, values: &mut Read) -> Line
     ensures { λ r. ⌜ r ≡ toldOf full (now (s .entry)) ⌝ }
     ensures { λ r. ⌜ Tails·Read full (now (s .entry)) r (now (values .exit)) ⌝ }
 {
-    match keyed_line(s, b"end=", 0, false, values) {
+    match one_value(s, b"end=", false, values) {
         Form::Good(e) => Line::End(e),
         Form::Wrong => Line::Neither,
         Form::Cut => Line::Cut,

@@ -3,7 +3,7 @@ use crate::Part;
 use annuity::Rows;
 use fields::lines::Line;
 use fields::lines::Read;
-use fields::lines::keyed_line;
+use fields::lines::five_values;
 use fields::text::from as bytes_from;
 use plan::rules::Row;
 use plan::rules::row_rule;
@@ -25,7 +25,7 @@ fn row_line(s: &[u8], age: u64, values: &mut Read) -> Line
     ensures { λ r. ⌜ r ≡ lineOf (rowOf age) (now (s .entry)) ⌝ }
     ensures { λ r. ⌜ ((e : ℕ) → r ≡ Good e → RowHeld (rowOf age (uptoOf 10 (now (s .entry)))) (now (values .exit))) ⌝ }
 {
-    match keyed_line(s, b"row=", 4, false, values) {
+    match five_values(s, b"row=", values) {
         Line::Good(e) => {
             if values[0] == age {
                 Line::Good(e)

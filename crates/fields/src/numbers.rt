@@ -53,7 +53,7 @@ pub(crate) fn field_at(s: &[u8], i: usize, b: u8) -> Field
 }
 
 // Rule 1.4: the amount from place i up to the first byte 10, in cents.
-fn amount_at(s: &[u8], i: usize) -> Field
+pub(crate) fn amount_at(s: &[u8], i: usize) -> Field
     ensures { λ r. ⌜ r ≡ fieldOf amountOf 10 i (now (s .entry)) ⌝ }
 {
     let Field::Is(dollars, p) = field_at(s, i, 46) else {
