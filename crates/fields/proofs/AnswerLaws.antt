@@ -73,3 +73,11 @@ module _ (holds : List ℕ → Values) (s : List ℕ) (known : Type 0) where
   pub answers-cut : hasOf 10 s ≡ false → Answers holds s Cut known
   unfolding lineOf
   answers-cut none = (rw none, λ e same. let z : _≡_ {A = ℕ} 0 1 = cc in absurd (omega arith))
+
+  -- a line that was not read: if it is whole its form is wrong
+  pub answers-unread : {r : Line} → (hasOf 10 s ≡ true → holds (uptoOf 10 s) ≡ misread) → r ≡ cond (hasOf 10 s) Wrong Cut → Answers holds s r known
+  answers-unread {r} bad unread = pick (hasOf 10 s) refl unread
+    where
+      pick : (h : Bool) → hasOf 10 s ≡ h → r ≡ cond h Wrong Cut → Answers holds s r known
+      pick true has e = rw e (answers-wrong has (bad has))
+      pick false has e = rw e (answers-cut has)

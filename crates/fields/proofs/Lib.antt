@@ -3,7 +3,7 @@ pub mod SplitLaws
 pub mod FieldLaws
 pub mod LineLaws
 pub mod AmountLaws
+pub mod AnswerLaws
 pub mod ValueLaws
 pub mod KeyLaws
-pub mod AnswerLaws
 pub mod Examples

@@ -8,8 +8,6 @@ use Rattle.fields.specs.declared.numbers.Field.{Field}
 use Rattle.fields.specs.declared.numbers.Field.the-variants.{Is, NotField}
 use Rattle.fields.specs.declared.lines.Line.{Line}
 use Rattle.fields.specs.declared.lines.Line.the-variants.{Good, Wrong, Cut}
-use Rattle.fields.specs.declared.lines.Place.{Place}
-use Rattle.fields.specs.declared.lines.Place.the-variants.{At, Nowhere}
 use Rattle.fields.specs.Split.{seekOf, hasOf, uptoOf, pastOf, startsOf}
 use Rattle.fields.specs.Numbers.{Number, value, malformed, wholeOf, amountOf}
 
@@ -50,14 +48,6 @@ placed malformed e = NotField
 
 unfoldable pub fieldOf : (form : List ℕ → Number) → (b i : ℕ) → List ℕ → Field
 fieldOf form b i s = cond (hasOf b (drop i s)) (placed (form (uptoOf b (drop i s))) (i + seekOf b (drop i s))) NotField
-
--- where the values end that stand from place i up to a byte 10
-abbrev pub ending : Values → ℕ → Place
-ending (found vs) e = At e
-ending misread e = Nowhere
-
-unfoldable pub endOf : (holds : List ℕ → Values) → (i : ℕ) → List ℕ → Place
-endOf holds i s = cond (hasOf 10 (drop i s)) (ending (holds (uptoOf 10 (drop i s))) (i + seekOf 10 (drop i s))) Nowhere
 
 -- the line that s begins with: whether its form is right, and the place of its byte 10; or it is cut off before one (rule 1.2)
 abbrev pub formed : Values → ℕ → Line

@@ -1,17 +1,18 @@
-// A line of a key, whole numbers with a comma after each, and a last value.
+// A line of a key, whole numbers with a comma after each, and a last value. There are three kinds of them, and a function
+// for each: where the fields stand one after the other LLVM inlines them, and it doesn't where they are read in a loop.
 use crate::numbers::Field;
+use crate::numbers::amount_at;
 use crate::numbers::field_at;
 use crate::numbers::last_at;
 use crate::text::seek;
 use crate::text::starts;
 ghost use mathlib.Core.Path.{_≡_};
 ghost use mathlib.Core.Bool.{false, cond};
-ghost use Prim.Native.Nat.{ℕ, _≤_};
-ghost use lib.ListN.{drop};
+ghost use Prim.Native.Nat.{ℕ};
 ghost use Rattle.fields.specs.declared.lines.Line.the-variants.{Good, Wrong, Cut};
-ghost use Rattle.fields.specs.declared.lines.Place.the-variants.{At};
 ghost use Rattle.fields.specs.Split.{hasOf, uptoOf};
-ghost use Rattle.fields.specs.Values.{Held, valuesOf, keyedOf, lastOf, endOf, lineOf};
+ghost use Rattle.fields.specs.Numbers.{wholeOf, amountOf};
+ghost use Rattle.fields.specs.Values.{Held, keyedOf, lastOf, lineOf};
 
 // The values of the longest line: a row's.
 pub type Read = [u64; 5];
@@ -21,37 +22,6 @@ pub enum Line {
     Good(usize),
     Wrong,
     Cut,
-}
-
-// Where the values of a line end, at its byte 10; or they don't.
-pub enum Place {
-    At(usize),
-    Nowhere,
-}
-
-// n whole numbers and the last value of the line that goes on at place i, written to the front of `values`.
-fn values_at(s: &[u8], i: usize, n: usize, amount: bool, values: &mut Read) -> Place
-    requires { ⌜ n ≤ 4 ⌝ }
-    ensures { λ r. ⌜ r ≡ endOf (valuesOf (lastOf amount) n) i (now (s .entry)) ⌝ }
-    ensures { λ r. ⌜ ((e : ℕ) → r ≡ At e → Held (valuesOf (lastOf amount) n (uptoOf 10 (drop i (now (s .entry))))) n (now (values .exit))) ⌝ }
-{
-    // Nothing that the caller left there is taken for a value.
-    *values = [0u64; 5];
-    let mut at = i;
-    let mut k = 0;
-    while k < n {
-        let Field::Is(v, e) = field_at(s, at, 44) else {
-            return Place::Nowhere;
-        };
-        values[k] = v;
-        at = e + 1;
-        k += 1;
-    }
-    let Field::Is(v, e) = last_at(s, at, amount) else {
-        return Place::Nowhere;
-    };
-    values[n] = v;
-    Place::At(e)
 }
 
 // A line whose form is not right: it is wrong, or it is cut off.
@@ -65,20 +35,72 @@ pub fn unread(s: &[u8]) -> Line
     }
 }
 
-// The line that s begins with: the key, n whole numbers with a comma after each, and the last value. Where its form is
-// right its values are written to the front of `values`.
-pub fn keyed_line(s: &[u8], key: &[u8], n: usize, amount: bool, values: &mut Read) -> Line
-    requires { ⌜ (n ≤ 4) × (hasOf 10 (now key) ≡ false) ⌝ }
-    ensures { λ r. ⌜ r ≡ lineOf (keyedOf (now (key .entry)) (lastOf amount) n) (now (s .entry)) ⌝ }
-    ensures { λ r. ⌜ ((e : ℕ) → r ≡ Good e → Held (keyedOf (now (key .entry)) (lastOf amount) n (uptoOf 10 (now (s .entry)))) n (now (values .exit))) ⌝ }
+// The line that s begins with: the key, and a whole number or an amount. Where its form is right its value is written to
+// the front of `values`.
+pub fn one_value(s: &[u8], key: &[u8], amount: bool, values: &mut Read) -> Line
+    requires { ⌜ hasOf 10 (now key) ≡ false ⌝ }
+    ensures { λ r. ⌜ r ≡ lineOf (keyedOf (now (key .entry)) (lastOf amount) 0) (now (s .entry)) ⌝ }
+    ensures { λ r. ⌜ ((e : ℕ) → r ≡ Good e → Held (keyedOf (now (key .entry)) (lastOf amount) 0 (uptoOf 10 (now (s .entry)))) 0 (now (values .exit))) ⌝ }
 {
-    if starts(s, key) {
-        let k = key.len();
-        let Place::At(e) = values_at(s, k, n, amount, values) else {
-            return unread(s);
-        };
-        Line::Good(e)
-    } else {
-        unread(s)
+    if !starts(s, key) {
+        return unread(s);
     }
+    let Field::Is(a, e) = last_at(s, key.len(), amount) else {
+        return unread(s);
+    };
+    *values = [a, 0, 0, 0, 0];
+    Line::Good(e)
+}
+
+// The same with three whole numbers and an amount.
+pub fn four_values(s: &[u8], key: &[u8], values: &mut Read) -> Line
+    requires { ⌜ hasOf 10 (now key) ≡ false ⌝ }
+    ensures { λ r. ⌜ r ≡ lineOf (keyedOf (now (key .entry)) amountOf 3) (now (s .entry)) ⌝ }
+    ensures { λ r. ⌜ ((e : ℕ) → r ≡ Good e → Held (keyedOf (now (key .entry)) amountOf 3 (uptoOf 10 (now (s .entry)))) 3 (now (values .exit))) ⌝ }
+{
+    if !starts(s, key) {
+        return unread(s);
+    }
+    let Field::Is(a, i) = field_at(s, key.len(), 44) else {
+        return unread(s);
+    };
+    let Field::Is(b, j) = field_at(s, i + 1, 44) else {
+        return unread(s);
+    };
+    let Field::Is(c, k) = field_at(s, j + 1, 44) else {
+        return unread(s);
+    };
+    let Field::Is(d, e) = amount_at(s, k + 1) else {
+        return unread(s);
+    };
+    *values = [a, b, c, d, 0];
+    Line::Good(e)
+}
+
+// The same with five whole numbers.
+pub fn five_values(s: &[u8], key: &[u8], values: &mut Read) -> Line
+    requires { ⌜ hasOf 10 (now key) ≡ false ⌝ }
+    ensures { λ r. ⌜ r ≡ lineOf (keyedOf (now (key .entry)) wholeOf 4) (now (s .entry)) ⌝ }
+    ensures { λ r. ⌜ ((e : ℕ) → r ≡ Good e → Held (keyedOf (now (key .entry)) wholeOf 4 (uptoOf 10 (now (s .entry)))) 4 (now (values .exit))) ⌝ }
+{
+    if !starts(s, key) {
+        return unread(s);
+    }
+    let Field::Is(a, h) = field_at(s, key.len(), 44) else {
+        return unread(s);
+    };
+    let Field::Is(b, i) = field_at(s, h + 1, 44) else {
+        return unread(s);
+    };
+    let Field::Is(c, j) = field_at(s, i + 1, 44) else {
+        return unread(s);
+    };
+    let Field::Is(d, k) = field_at(s, j + 1, 44) else {
+        return unread(s);
+    };
+    let Field::Is(f, e) = field_at(s, k + 1, 10) else {
+        return unread(s);
+    };
+    *values = [a, b, c, d, f];
+    Line::Good(e)
 }

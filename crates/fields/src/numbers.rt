@@ -46,14 +46,14 @@ pub(crate) fn field_at(s: &[u8], i: usize, b: u8) -> Field
         if i + 12 <= j {
             return Field::NotField;
         }
-        n = n * 10 + (c as u64 - 48);
+        n = n * 10 + (c - 48) as u64;
         j += 1;
     }
     Field::NotField
 }
 
 // Rule 1.4: the amount from place i up to the first byte 10, in cents.
-fn amount_at(s: &[u8], i: usize) -> Field
+pub(crate) fn amount_at(s: &[u8], i: usize) -> Field
     ensures { λ r. ⌜ r ≡ fieldOf amountOf 10 i (now (s .entry)) ⌝ }
 {
     let Field::Is(dollars, p) = field_at(s, i, 46) else {
@@ -74,7 +74,7 @@ fn amount_at(s: &[u8], i: usize) -> Field
         return Field::NotField;
     }
     Field::Is(
-        dollars * 100 + (a as u64 - 48) * 10 + (b as u64 - 48),
+        dollars * 100 + (a - 48) as u64 * 10 + (b - 48) as u64,
         p + 3,
     )
 }

@@ -1,7 +1,7 @@
 // The heading, RULES section 2: the plan's own terms.
 use fields::lines::Line;
 use fields::lines::Read;
-use fields::lines::keyed_line;
+use fields::lines::one_value;
 use fields::lines::unread;
 use fields::text::from;
 use fields::text::same;
@@ -91,14 +91,14 @@ fn term_line(s: &[u8], k: usize, values: &mut Read) -> Line
     ensures { λ r. ⌜ ((e : ℕ) → r ≡ Good e → Held (termForm k (uptoOf 10 (now (s .entry)))) 0 (now (values .exit))) ⌝ }
 {
     match k {
-        0 => keyed_line(s, b"interest=", 0, false, values),
-        1 => keyed_line(s, b"retire=", 0, false, values),
+        0 => one_value(s, b"interest=", false, values),
+        1 => one_value(s, b"retire=", false, values),
         2 => word_line(s, false, values),
-        3 => keyed_line(s, b"unit=", 0, false, values),
-        4 => keyed_line(s, b"average=", 0, false, values),
+        3 => one_value(s, b"unit=", false, values),
+        4 => one_value(s, b"average=", false, values),
         5 => word_line(s, true, values),
-        6 => keyed_line(s, b"assets=", 0, true, values),
-        7 => keyed_line(s, b"years=", 0, false, values),
+        6 => one_value(s, b"assets=", true, values),
+        7 => one_value(s, b"years=", false, values),
         _ => unread(s),
     }
 }

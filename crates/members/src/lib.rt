@@ -1,7 +1,8 @@
 // The lines after the rows, RULES section 4: the members and the end.
 use fields::lines::Line;
 use fields::lines::Read;
-use fields::lines::keyed_line;
+use fields::lines::four_values;
+use fields::lines::one_value;
 use fields::text::from;
 use fields::text::seek;
 use fields::text::starts;
@@ -39,7 +40,7 @@ fn tail_line(s: &[u8], full: bool, values: &mut Read) -> Kind
     if full {
         return full_line(s, values);
     }
-    match keyed_line(s, b"member=", 3, true, values) {
+    match four_values(s, b"member=", values) {
         Line::Good(e) => Kind::Person(e),
         Line::Wrong => {
             if starts(s, b"member=") {
@@ -74,7 +75,7 @@ fn end_line(s: &[u8], full: bool, values: &mut Read) -> Kind
     ensures { λ r. ⌜ r ≡ kindOf full (now (s .entry)) ⌝ }
     ensures { λ r. ⌜ TailHeld full (now (s .entry)) r (now (values .exit)) ⌝ }
 {
-    match keyed_line(s, b"end=", 0, false, values) {
+    match one_value(s, b"end=", false, values) {
         Line::Good(e) => Kind::End(e),
         Line::Wrong => Kind::Neither,
         Line::Cut => Kind::Cut,

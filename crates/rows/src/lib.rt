@@ -1,7 +1,7 @@
 // The table, RULES section 3: a row for each age from 15 to 120.
 use fields::lines::Line;
 use fields::lines::Read;
-use fields::lines::keyed_line;
+use fields::lines::five_values;
 use fields::text::from;
 use rates::Rows;
 use rules::rows::Row;
@@ -25,7 +25,7 @@ fn row_line(s: &[u8], age: u64, values: &mut Read) -> Line
     ensures { λ r. ⌜ r ≡ lineOf (rowForm age) (now (s .entry)) ⌝ }
     ensures { λ r. ⌜ ((e : ℕ) → r ≡ Good e → RowHeld (rowForm age (uptoOf 10 (now (s .entry)))) (now (values .exit))) ⌝ }
 {
-    match keyed_line(s, b"row=", 4, false, values) {
+    match five_values(s, b"row=", values) {
         Line::Good(e) => {
             if values[0] == age {
                 Line::Good(e)

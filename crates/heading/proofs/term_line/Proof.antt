@@ -11,11 +11,11 @@ use Rattle.heading.proofs.term_line.Tie as tie
 
 interest : tie.Need-returns
 unfolding termForms
-interest c = rw (c .before .before .before .match .keys1) (c .keyed-line .ensures)
+interest c = rw (c .before .before .before .match .keys1) (c .one-value .ensures)
 
 retire : tie.Need-returns-2
 unfolding termForms
-retire c = rw (c .before .before .before .match .keys2) (c .keyed-line2 .ensures)
+retire c = rw (c .before .before .before .match .keys2) (c .one-value2 .ensures)
 
 formula : tie.Need-returns-3
 unfolding termForms
@@ -23,11 +23,11 @@ formula c = rw (c .before .before .match .keys3) (c .word-line .ensures)
 
 unit : tie.Need-returns-4
 unfolding termForms
-unit c = rw (c .before .before .before .match .keys4) (c .keyed-line3 .ensures)
+unit c = rw (c .before .before .before .match .keys4) (c .one-value3 .ensures)
 
 average : tie.Need-returns-5
 unfolding termForms
-average c = rw (c .before .before .before .match .keys5) (c .keyed-line4 .ensures)
+average c = rw (c .before .before .before .match .keys5) (c .one-value4 .ensures)
 
 method : tie.Need-returns-6
 unfolding termForms
@@ -35,11 +35,11 @@ method c = rw (c .before .before .match .keys6) (c .word-line2 .ensures)
 
 assets : tie.Need-returns-7
 unfolding termForms
-assets c = rw (c .before .before .before .match .keys7) (c .keyed-line5 .ensures)
+assets c = rw (c .before .before .before .match .keys7) (c .one-value5 .ensures)
 
 years : tie.Need-returns-8
 unfolding termForms
-years c = rw (c .before .before .before .match .keys8) (c .keyed-line6 .ensures)
+years c = rw (c .before .before .before .match .keys8) (c .one-value6 .ensures)
 
 none : tie.Need-returns-9
 unfolding termForms
@@ -49,14 +49,14 @@ pub term-line-spec : {M : Type 1} → statement M
 term-line-spec =
     tie.close
     (tie.spec
-    (λ c. search needs) (λ c κs. (omega arith, has-lacks 10 _ refl))
-    (λ c. search needs) (λ c κs. (omega arith, has-lacks 10 _ refl))
+    (λ c. search needs) (λ c κs. has-lacks 10 _ refl)
+    (λ c. search needs) (λ c κs. has-lacks 10 _ refl)
     (λ c κs. search needs)
-    (λ c. search needs) (λ c κs. (omega arith, has-lacks 10 _ refl))
-    (λ c. search needs) (λ c κs. (omega arith, has-lacks 10 _ refl))
+    (λ c. search needs) (λ c κs. has-lacks 10 _ refl)
+    (λ c. search needs) (λ c κs. has-lacks 10 _ refl)
     (λ c κs. search needs)
-    (λ c. search needs) (λ c κs. (omega arith, has-lacks 10 _ refl))
-    (λ c. search needs) (λ c κs. (omega arith, has-lacks 10 _ refl))
+    (λ c. search needs) (λ c κs. has-lacks 10 _ refl)
+    (λ c. search needs) (λ c κs. has-lacks 10 _ refl)
     (λ c κs. search needs)
     interest retire formula unit average method assets years
     none)

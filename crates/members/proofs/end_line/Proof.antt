@@ -1,6 +1,5 @@
 -- `members::end_line` meets its contract.
 use mathlib.Core.Path.{refl}
-use native.Mathlib.Omega.{arith}
 use borrow.Author.Needs.{needs}
 use Rattle.fields.proofs.SplitLaws.{has-lacks}
 use Rattle.members.proofs.LineLaws.{end-good, end-wrong, end-cut}
@@ -10,7 +9,7 @@ use Rattle.members.proofs.end_line.Tie as tie
 pub end-line-spec : {M : Type 1} → statement M
 end-line-spec =
     tie.close
-    (tie.spec (λ c. search needs) (λ c κs. (omega arith, has-lacks 10 _ refl)) (λ c. search needs) (λ c. search needs) (λ c. search needs)
-    (λ c. end-good _ _ _ (c .before .before .before .before .before .before .before .pre) (c .before .before .before .keyed-line .ensures) (c .before .e .given .1))
-    (λ c. end-wrong _ _ _ (c .before .before .before .before .before .before .pre) (c .before .before .keyed-line .ensures) (c .enum-told .given .1))
-    (λ c. end-cut _ _ _ (c .before .before .before .before .before .before .pre) (c .before .before .keyed-line .ensures) (c .enum-told2 .given .1)))
+    (tie.spec (λ c. search needs) (λ c κs. has-lacks 10 _ refl) (λ c. search needs) (λ c. search needs) (λ c. search needs)
+    (λ c. end-good _ _ _ (c .before .before .before .before .before .before .before .pre) (c .before .before .before .one-value .ensures) (c .before .e .given .1))
+    (λ c. end-wrong _ _ _ (c .before .before .before .before .before .before .pre) (c .before .before .one-value .ensures) (c .enum-told .given .1))
+    (λ c. end-cut _ _ _ (c .before .before .before .before .before .before .pre) (c .before .before .one-value .ensures) (c .enum-told2 .given .1)))

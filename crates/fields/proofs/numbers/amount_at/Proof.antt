@@ -26,7 +26,7 @@ amount-at-spec =
     (λ c. second-off _ _ (c .before .before .before .before .before .before .before .before .before .before .field-at .ensures) (c .before .before .before .before .before .before .before .before .dollars .given .1) (sym (c .before .is-digit2 .ensures .0) ∙ not-true _ (c .if3 .taken)))
     (λ c. omega arith)
     (λ c. omega arith)
-    (λ c. amount-end _ _ (c .before .before .before .before .before .before .before .before .before .before .before .before .field-at .ensures) (c .before .before .before .before .before .before .before .before .before .before .dollars .given .1) (λ e. c .if4 .taken (omega (arith, e))))
+    (λ c. amount-end _ _ (c .before .before .before .before .before .before .before .before .before .before .before .before .field-at .ensures) (c .before .before .before .before .before .before .before .before .before .before .dollars .given .1) (λ e. omega (arith, c .if4 .taken)))
     (λ c. omega (arith, field-small 46 (omega arith) (λ e. omega arith) _ _ (c .before .before .before .before .before .before .before .before .before .before .before .before .field-at .ensures) (c .before .before .before .before .before .before .before .before .before .before .dollars .given .1)))
     (λ c. omega (arith, c .before .before .before .before .before .is-digit .ensures .1 (not-false _ (c .before .before .before .before .if2 .left))))
     (λ c. omega (arith, c .before .before .before .before .before .is-digit .ensures .1 (not-false _ (c .before .before .before .before .if2 .left))))
