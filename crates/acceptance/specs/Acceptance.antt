@@ -3,6 +3,7 @@ use mathlib.Core.Bool.{cond, _&&_}
 use mathlib.Core.List.{List, [], _∷_, _++_}
 use Prim.Native.Nat.{ℕ}
 use lib.Dec.{leb, ltb, eqb}
+use Rattle.rates.specs.Table.{firstAge, ages}
 use Rattle.plan.specs.declared.Plan.{Plan}
 use Rattle.plan.specs.declared.Member.{Member}
 use Rattle.plan.specs.Benefit.{B}
@@ -15,7 +16,7 @@ use Rattle.acceptance.specs.declared.Acceptance.the-variants.{Accepted, 
 
 -- rule 5.3, a plan with its rows, ages 15 to 120: the heading goes before the table
 unfoldable pub planRefusal : Plan → List (List ℕ) → ℕ
-planRefusal p rows = firstOf (firstOf (headRules p) ∷ rowsRefusal rows 15 106 ∷ [])
+planRefusal p rows = firstOf (firstOf (headRules p) ∷ rowsRefusal rows firstAge ages ∷ [])
 
 -- ---- a member line
 -- rules 4.2 to 4.5: the id, the entry age, the age and the salary.

@@ -6,11 +6,14 @@ use fields::text::from;
 use heading::head_lines;
 use members::Count;
 use members::member_lines;
+use plan::MOST_MEMBERS;
 use plan::Members;
 use plan::Plan;
 use plan::Terms;
+use rates::AGES;
 use rates::Rows;
 use rows::row_lines;
+use rules::refusals::TOO_LARGE;
 use rules::terms::plan_from;
 use stretches::Stretch;
 ghost use mathlib.Core.Path.{_≡_};
@@ -35,7 +38,7 @@ fn walk_lines(case: &[u8], ranges: bool, rows: &mut Rows, members: &mut Members)
     ensures { λ r. ⌜ WalkIs ranges (walkOf ranges (now (case .entry))) r (now (rows .exit)) (now (members .exit)) ⌝ }
 {
     if 65_536 < case.len() {
-        return Walked::Refused(1, 0);
+        return Walked::Refused(TOO_LARGE, 0);
     }
     let mut terms = [0u64; 8];
     match head_lines(case, ranges, &mut terms) {
@@ -80,8 +83,8 @@ pub enum Reading {
 pub fn read_case(case: &[u8]) -> Reading
     ensures { λ r. ⌜ r ≡ readingOf (now (case .entry)) ⌝ }
 {
-    let mut rows = [[0u32; 4]; 106];
-    let mut members = [[0u64; 4]; 1000];
+    let mut rows = [[0u32; 4]; AGES];
+    let mut members = [[0u64; 4]; MOST_MEMBERS];
     match walk_lines(case, false, &mut rows, &mut members) {
         Walked::Whole(_, _) => Reading::Read,
         Walked::Refused(number, line) => Reading::Refused(number, line),
@@ -102,8 +105,8 @@ pub fn accept_case(case: &[u8], rows: &mut Rows, members: &mut Members) -> Accep
     ensures { λ _. ⌜ now (rows .exit) ≡ rowsAfter (acceptingOf (now (case .entry))) (now (rows .entry)) ⌝ }
     ensures { λ _. ⌜ now (members .exit) ≡ membersAfter (acceptingOf (now (case .entry))) (now (members .entry)) ⌝ }
 {
-    let mut table = [[0u32; 4]; 106];
-    let mut array = [[0u64; 4]; 1000];
+    let mut table = [[0u32; 4]; AGES];
+    let mut array = [[0u64; 4]; MOST_MEMBERS];
     match walk_lines(case, true, &mut table, &mut array) {
         Walked::Whole(p, n) => {
             *rows = table;

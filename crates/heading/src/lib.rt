@@ -7,6 +7,8 @@ use fields::text::from;
 use fields::text::same;
 use fields::text::seek;
 use plan::Terms;
+use rules::refusals::CUT_OFF;
+use rules::refusals::PLAN_FORM;
 use rules::terms::term_rule;
 use stretches::Stretch;
 ghost use mathlib.Core.Path.{_≡_};
@@ -132,10 +134,10 @@ pub fn head_lines(s: &[u8], ranges: bool, terms: &mut Terms) -> Stretch
                 at += e + 1;
             }
             Line::Wrong => {
-                return Stretch::Refused(10, line);
+                return Stretch::Refused(PLAN_FORM, line);
             }
             Line::Cut => {
-                return Stretch::Refused(2, line);
+                return Stretch::Refused(CUT_OFF, line);
             }
         }
         line += 1;

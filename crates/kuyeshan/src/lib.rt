@@ -4,6 +4,7 @@
 use casefile::Accepting;
 use casefile::Reading;
 use costs::Valuation;
+use plan::MOST_MEMBERS;
 use plan::Member;
 use rates::AGES;
 use rates::Rows;
@@ -47,7 +48,7 @@ pub extern "C" fn kuyeshan_accept(case: &[u8], line: &mut u64) -> u64
     ensures { λ _. ⌜ now (line .exit) ≡ lineNumberOf (acceptingOf (now (case .entry))) ⌝ }
 {
     let mut rows = [[0u32; 4]; AGES];
-    let mut members = [[0u64; 4]; 1000];
+    let mut members = [[0u64; 4]; MOST_MEMBERS];
     match casefile::accept_case(case, &mut rows, &mut members) {
         Accepting::Accepted(_, _) => {
             *line = 0;

@@ -6,10 +6,16 @@ use fields::lines::one_value;
 use fields::text::from;
 use fields::text::seek;
 use fields::text::starts;
+use plan::MOST_MEMBERS;
 use plan::Member;
 use plan::Members;
 use plan::Plan;
 use rates::Rows;
+use rules::refusals::BYTES_AFTER;
+use rules::refusals::CUT_OFF;
+use rules::refusals::MEMBER_FORM;
+use rules::refusals::SURPLUS_MEMBER;
+use rules::refusals::WRONG_COUNT;
 ghost use mathlib.Core.Path.{_≡_};
 ghost use mathlib.Core.Bool.{true, false};
 ghost use Prim.Native.Nat.{_+_, _≤_};
@@ -120,10 +126,10 @@ fn end_count(n: u64, count: u64, line: u64, after: usize) -> Count
         if after == 0 {
             Count::Counted(count)
         } else {
-            Count::Refused(3, line + 1)
+            Count::Refused(BYTES_AFTER, line + 1)
         }
     } else {
-        Count::Refused(4, line)
+        Count::Refused(WRONG_COUNT, line)
     }
 }
 
@@ -141,14 +147,14 @@ pub fn member_lines(
     ensures { λ r. ⌜ ((h : Head) → Fits ranges p (now (rows .entry)) h → MembersAre ranges h first (now (s .entry)) r (now (members .exit))) ⌝ }
 {
     // Nothing that the caller left there is taken for a member.
-    *members = [[0u64; 4]; 1000];
+    *members = [[0u64; 4]; MOST_MEMBERS];
     let mut values = [0u64; 5];
     let mut at = 0;
     let mut count: u64 = 0;
     let mut before: u64 = 0;
     loop {
         let line = first + count;
-        match tail_line(from(s, at), count == 1000, &mut values) {
+        match tail_line(from(s, at), count == MOST_MEMBERS as u64, &mut values) {
             Kind::Person(e) => {
                 let m = member_from(&values);
                 let refusal = member_refusal(ranges, p, rows, before, m);
@@ -166,13 +172,13 @@ pub fn member_lines(
                 return end_count(values[0], count, line, after);
             }
             Kind::Surplus => {
-                return Count::Refused(27, line);
+                return Count::Refused(SURPLUS_MEMBER, line);
             }
             Kind::Neither => {
-                return Count::Refused(20, line);
+                return Count::Refused(MEMBER_FORM, line);
             }
             Kind::Cut => {
-                return Count::Refused(2, line);
+                return Count::Refused(CUT_OFF, line);
             }
         }
     }

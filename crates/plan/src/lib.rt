@@ -44,8 +44,11 @@ pub struct Member {
     pub salary: u64,
 }
 
-// Rule 4.1: up to 1,000 members, each by its id, entry age, age and salary.
-pub type Members = [[u64; 4]; 1000];
+// Rule 4.1: so many members at most.
+pub const MOST_MEMBERS: usize = 1_000;
+
+// The members, each by its id, entry age, age and salary.
+pub type Members = [[u64; 4]; MOST_MEMBERS];
 
 // A number of the table as a word.
 pub fn wide(x: u32) -> u64

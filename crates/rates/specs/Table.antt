@@ -4,7 +4,14 @@ use Prim.Native.Nat.{ℕ, _-_, _≤_}
 use lib.ListN.{getD}
 use Rattle.rates.specs.Rates.{death, withdrawal, disability, stays}
 
--- rule 3.1, the four numbers of age k: death, withdrawal and disability in millionths, and the weight
+-- rule 3.1: a row for each age from 15 to 120
+abbrev pub firstAge : ℕ
+firstAge = 15
+
+abbrev pub ages : ℕ
+ages = 106
+
+-- the four numbers of age k: death, withdrawal and disability in millionths, and the weight
 abbrev pub row : List (List ℕ) → ℕ → List ℕ
 row rows k = getD rows (k - 15) []
 

@@ -15,6 +15,7 @@ use totals::member_at;
 ghost use mathlib.Core.List.{_++_};
 ghost use Prim.Native.Nat.{_+_, _^_, _≤_, _<_};
 ghost use Rattle.rounding.specs.Signed.{integerOf};
+ghost use Rattle.walk.specs.Lines.{mostMembers};
 ghost use Rattle.printing.specs.Puts.{Puts};
 ghost use Rattle.report.specs.Lines.{figuresLine, planLines, refusalLine};
 ghost use Rattle.report.specs.Worked.{linesIn};
@@ -32,7 +33,7 @@ fn write_member_line(out: &mut [u8], at: usize, id: u64, f: Figures) -> usize
 
 // Writes the members' lines, from the start on.
 fn write_member_lines(out: &mut [u8], members: &Members, worked: &Worked, count: usize) -> usize
-    requires { ⌜ count ≤ 1000 ⌝ }
+    requires { ⌜ count ≤ mostMembers ⌝ }
     ensures { λ r. ⌜ Puts (now (out .entry)) 0 (linesIn (now (members .entry)) (now (worked .entry)) count) (now (out .exit)) r ⌝ }
     ensures { λ r. ⌜ r ≤ 133000 ⌝ }
 {
@@ -75,7 +76,7 @@ pub fn write_lines(
     unfunded: Signed,
     supplemental: Signed,
 ) -> usize
-    requires { ⌜ count ≤ 1000 ⌝ }
+    requires { ⌜ count ≤ mostMembers ⌝ }
     ensures { λ r. ⌜ Puts (now (out .entry)) 0 (linesIn (now (members .entry)) (now (worked .entry)) count ++ planLines count t (integerOf unfunded) (integerOf supplemental)) (now (out .exit)) r ⌝ }
 {
     let at = write_member_lines(out, members, worked, count as usize);

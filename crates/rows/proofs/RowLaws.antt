@@ -21,7 +21,8 @@ use Rattle.rules.specs.Table.{rowRules, rowNumbers, weightBefore}
 use Rattle.rules.proofs.TableLaws.{weight-passed}
 use Rattle.rules.proofs.RuleLaws.{all-kept, kept}
 use Rattle.walk.specs.Outcome.{refusal, settled}
-use Rattle.walk.specs.Lines.{rowForm, ages, dueAge, rowRefusal}
+use Rattle.rates.specs.Table.{ages}
+use Rattle.walk.specs.Lines.{rowForm, dueAge, rowRefusal}
 use Rattle.walk.specs.Step.{table, right, withRow, afterRow, rowLine, verdictOf}
 use Rattle.walk.specs.Walk.{walkFrom}
 use Rattle.walk.specs.Kept.{Each}

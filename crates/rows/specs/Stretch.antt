@@ -6,7 +6,8 @@ use mathlib.Core.List.{List, []}
 use mathlib.Core.Bool.{Bool, true}
 use lib.ListN.{length, drop}
 use Rattle.walk.specs.Outcome.{refusal}
-use Rattle.walk.specs.Lines.{ages, rowRefusal}
+use Rattle.rates.specs.Table.{ages}
+use Rattle.walk.specs.Lines.{rowRefusal}
 use Rattle.walk.specs.Step.{table, people}
 use Rattle.walk.specs.Walk.{walkFrom}
 use Rattle.walk.specs.Kept.{Each}

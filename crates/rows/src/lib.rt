@@ -3,7 +3,10 @@ use fields::lines::Line;
 use fields::lines::Read;
 use fields::lines::five_values;
 use fields::text::from;
+use rates::AGES;
 use rates::Rows;
+use rules::refusals::CUT_OFF;
+use rules::refusals::PLAN_FORM;
 use rules::rows::Row;
 use rules::rows::row_rule;
 use stretches::Stretch;
@@ -84,13 +87,13 @@ pub fn row_lines(s: &[u8], first: u64, ranges: bool, rows: &mut Rows) -> Stretch
     ensures { λ r. ⌜ RowsAre ranges first (now (s .entry)) r (now (rows .exit)) ⌝ }
 {
     // Nothing that the caller left there is taken for a row.
-    *rows = [[0u32; 4]; 106];
+    *rows = [[0u32; 4]; AGES];
     let mut values = [0u64; 5];
     let mut line = first;
     let mut at = 0;
     let mut k: usize = 0;
     let mut before: u64 = 0;
-    while k < 106 {
+    while k < AGES {
         match row_line(from(s, at), k as u64 + 15, &mut values) {
             Line::Good(e) => {
                 let refusal = row_refusal(ranges, k + 15, before, &values);
@@ -102,10 +105,10 @@ pub fn row_lines(s: &[u8], first: u64, ranges: bool, rows: &mut Rows) -> Stretch
                 at += e + 1;
             }
             Line::Wrong => {
-                return Stretch::Refused(10, line);
+                return Stretch::Refused(PLAN_FORM, line);
             }
             Line::Cut => {
-                return Stretch::Refused(2, line);
+                return Stretch::Refused(CUT_OFF, line);
             }
         }
         line += 1;

@@ -11,6 +11,7 @@ use rates::Rows;
 ghost use mathlib.Core.Path.{_≡_};
 ghost use mathlib.Core.Bool.{_&&_, cond, true};
 ghost use lib.Dec.{eqb, leb};
+ghost use Rattle.rates.specs.Table.{firstAge, ages};
 ghost use Rattle.rules.specs.Refusals.{outOfRange, wrongLastDeath, wrongWeight};
 ghost use Rattle.rules.specs.Rules.{firstOf};
 ghost use Rattle.rules.specs.Rules.{unless as Rules·unless, between as Rules·between};
@@ -78,7 +79,7 @@ fn weight_rule(before: u64, weight: u64) -> u64
 
 // The first refusal of all rows.
 pub fn rows_refusal(rows: Rows) -> u64
-    ensures { λ r. ⌜ r ≡ rowsRefusal rows 15 106 ⌝ }
+    ensures { λ r. ⌜ r ≡ rowsRefusal rows firstAge ages ⌝ }
 {
     let mut k: usize = 15;
     let mut before: u64 = 0;

@@ -2,6 +2,7 @@
 // after the other; the text is the crate report's. specs/Totals.antt has the totals, specs/Worked.antt what the array
 // holds.
 use costs::Figures;
+use plan::MOST_MEMBERS;
 use plan::Member;
 use plan::Members;
 use plan::Plan;
@@ -14,6 +15,7 @@ ghost use lib.IntN.{pos, _-ℤ_, _*ℤ_};
 ghost use Rattle.rounding.specs.Nearest.{nearestℤ};
 ghost use Rattle.rounding.specs.Signed.{integerOf, signed};
 ghost use Rattle.annuity.specs.Factors.{S as Factors·S, C};
+ghost use Rattle.walk.specs.Lines.{mostMembers};
 ghost use Rattle.members.specs.Array.{memberAt};
 ghost use Rattle.totals.specs.Totals.{totals};
 ghost use Rattle.totals.specs.Worked.{AcceptedMembers, figuresIn, membersIn, sumsIn, SmallIn};
@@ -27,11 +29,11 @@ pub struct Totals {
 }
 
 // The figures of up to 1,000 members: the benefit, its value, the cost and the liability of each.
-pub type Worked = [[u64; 4]; 1000];
+pub type Worked = [[u64; 4]; MOST_MEMBERS];
 
 // Member j of the array that accepting fills.
 pub fn member_at(members: &Members, j: usize) -> Member
-    requires { ⌜ j < 1000 ⌝ }
+    requires { ⌜ j < mostMembers ⌝ }
     ensures { λ m. ⌜ m ≡ memberAt (now (members .entry)) j ⌝ }
 {
     let m = members[j];
@@ -45,7 +47,7 @@ pub fn member_at(members: &Members, j: usize) -> Member
 
 // The figures of member j.
 pub fn figures_at(worked: &Worked, j: usize) -> Figures
-    requires { ⌜ j < 1000 ⌝ }
+    requires { ⌜ j < mostMembers ⌝ }
     ensures { λ f. ⌜ f ≡ figuresIn (now (worked .entry)) j ⌝ }
 {
     let f = worked[j];
@@ -63,7 +65,7 @@ fn fill_figures(p: Plan, rows: Rows, members: &Members, count: usize, worked: &m
     ensures { λ _. ⌜ AreWorked p rows (now (members .entry)) (now (worked .exit)) count ⌝ }
 {
     // Written whole first, so that its length is known to the proof.
-    *worked = [[0u64; 4]; 1000];
+    *worked = [[0u64; 4]; MOST_MEMBERS];
     let mut j = 0;
     while j < count {
         let f = plain_engine::figures_of(p, rows, member_at(members, j));
@@ -74,7 +76,7 @@ fn fill_figures(p: Plan, rows: Rows, members: &Members, count: usize, worked: &m
 
 // Rule 11.1: the sums of the figures that the array holds.
 fn sum_figures(worked: &Worked, count: usize) -> Totals
-    requires { ⌜ (count ≤ 1000) × SmallIn (now worked) count ⌝ }
+    requires { ⌜ (count ≤ mostMembers) × SmallIn (now worked) count ⌝ }
     ensures { λ t. ⌜ t ≡ sumsIn (now (worked .entry)) count ⌝ }
 {
     let mut value = 0;

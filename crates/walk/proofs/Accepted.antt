@@ -17,7 +17,8 @@ use Rattle.acceptance.specs.Acceptance.{planRefusal}
 use Rattle.rules.proofs.RuleLaws.{All-kept, all-kept, kept-all}
 use Rattle.walk.specs.Outcome.{values, refusal}
 use Rattle.walk.specs.Terms.{termForms, termRefusal}
-use Rattle.walk.specs.Lines.{ages, dueAge, rowRefusal}
+use Rattle.rates.specs.Table.{ages}
+use Rattle.walk.specs.Lines.{dueAge, rowRefusal}
 use Rattle.walk.specs.Step.{Head, State, heading, table, people, ended, lastId, personRefusal}
 use Rattle.walk.specs.Walk.{Case, linesOf, restOf, caseOf, closed, folded, start, walkFrom, walkOf}
 use Rattle.walk.specs.Kept.{EachAfter, Each, Kept, nobody, idBefore, AcceptedCase}
@@ -117,7 +118,7 @@ module _ (h : Head) (members : List Member) (k : ℕ) (sized : Sized k (ended h 
     (λ k.
         record {
           plan = plan-kept (h .terms) (h .rows) (sized .1) (sized .2) .1 (k .terms, k .rows);
-          ages = sized .2;
+          all-ages = sized .2;
           few = sized .3;
           member = λ j low. rw (← id-at members j low) (each-at (personRefusal h) nobody [] members (k .members) j low);
         }),

@@ -17,7 +17,8 @@ use Rattle.plan.specs.declared.Member.{Member}
 use Rattle.rules.specs.Refusals.{wrongCount}
 use Rattle.rules.specs.Heading.{planFrom}
 use Rattle.walk.specs.Terms.{termForms, termForm, termRefusal}
-use Rattle.walk.specs.Lines.{rowForm, ages, dueAge, rowRefusal, Tail, person, end, surplus, neither, endMade, mostMembers, tailOf}
+use Rattle.rates.specs.Table.{ages}
+use Rattle.walk.specs.Lines.{rowForm, dueAge, rowRefusal, Tail, person, end, surplus, neither, endMade, mostMembers, tailOf}
 use Rattle.walk.specs.Step.{Head, State, heading, table, people, ended, Verdict, wrong, right, withTerm, termLine, withRow, rowLine, lastId, personRefusal, tailLine, verdictOf}
 use Rattle.walk.specs.Kept.{EachAfter, Each, Kept}
 use Rattle.walk.specs.Answers.{Section, in-heading, in-table, in-members, past-end, FormOf, term-form, row-form, count, tail-form, surplus as surplus-form, after-end, of-line}

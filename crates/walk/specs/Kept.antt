@@ -6,7 +6,8 @@ use lib.ListN.{length, getD}
 use Rattle.plan.specs.declared.Member.{Member}
 use Rattle.acceptance.specs.Acceptance.{planRefusal, memberRefusal}
 use Rattle.walk.specs.Terms.{termRefusal}
-use Rattle.walk.specs.Lines.{ages, rowRefusal, mostMembers}
+use Rattle.rates.specs.Table.{ages}
+use Rattle.walk.specs.Lines.{rowRefusal, mostMembers}
 use Rattle.walk.specs.Step.{Head, State, heading, table, people, ended, personRefusal}
 use Rattle.walk.specs.Walk.{Case}
 
@@ -49,6 +50,6 @@ idBefore l (suc j) = (getD l j nobody) .id
 -- rule 5.2: every range rule is kept, by the plan with its rows and by each member after the one before it
 pub record AcceptedCase (c : Case) : Type 0 where
   pub plan : planRefusal (c .plan) (c .rows) ≡ 0
-  pub ages : length (c .rows) ≡ ages
+  pub all-ages : length (c .rows) ≡ ages
   pub few : length (c .members) ≤ mostMembers
   pub member : (j : ℕ) → j < length (c .members) → memberRefusal (c .plan) (c .rows) (idBefore (c .members) j) (getD (c .members) j nobody) ≡ 0

@@ -11,7 +11,8 @@ use Rattle.rules.specs.Heading.{planFrom}
 use Rattle.acceptance.specs.Acceptance.{memberRefusal}
 use Rattle.walk.specs.Outcome.{Outcome, values, refusal, passing, settled}
 use Rattle.walk.specs.Terms.{termForms, termForm, termRefusal}
-use Rattle.walk.specs.Lines.{rowForm, ages, dueAge, rowRefusal, Tail, person, end, surplus, neither, mostMembers, tailOf}
+use Rattle.rates.specs.Table.{ages}
+use Rattle.walk.specs.Lines.{rowForm, dueAge, rowRefusal, Tail, person, end, surplus, neither, mostMembers, tailOf}
 
 -- what the lines before the members hold
 pub record Head : Type 0 where
