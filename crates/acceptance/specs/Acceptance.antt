@@ -3,6 +3,7 @@ use mathlib.Core.Bool.{cond, _&&_}
 use mathlib.Core.List.{List, [], _∷_, _++_}
 use Prim.Native.Nat.{ℕ}
 use lib.Dec.{leb, ltb, eqb}
+use Rattle.annuity.specs.Basis.{firstAge, ages}
 use Rattle.plan.specs.declared.Plan.{Plan}
 use Rattle.plan.specs.declared.Member.{Member}
 use Rattle.plan.specs.Benefit.{B}
@@ -13,9 +14,9 @@ use Rattle.rules.specs.Table.{rowsRefusal}
 use Rattle.acceptance.specs.declared.Acceptance.{Acceptance}
 use Rattle.acceptance.specs.declared.Acceptance.the-variants.{Accepted, Refused}
 
--- rule 5.3, a plan with its rows, ages 15 to 120: the heading goes before the table
+-- rule 5.3, a plan with its rows, one for each age: the heading goes before the table
 unfoldable pub planRefusal : Plan → List (List ℕ) → ℕ
-planRefusal p rows = firstOf (firstOf (headRules p) ∷ rowsRefusal rows 15 106 ∷ [])
+planRefusal p rows = firstOf (firstOf (headRules p) ∷ rowsRefusal rows firstAge ages ∷ [])
 
 -- ---- a member line
 -- rules 4.2 to 4.5: the id, the entry age, the age and the salary.
@@ -23,7 +24,7 @@ planRefusal p rows = firstOf (firstOf (headRules p) ∷ rowsRefusal rows 15 106 
 unfoldable pub fieldRules : Plan → (before : ℕ) → Member → List ℕ
 fieldRules p before m =
     unless (between 1 999999999 (m .id) && ltb before (m .id)) wrongId
-    ∷ unless (leb 15 (m .entry) && ltb (m .entry) (p .retire)) wrongEntry
+    ∷ unless (leb firstAge (m .entry) && ltb (m .entry) (p .retire)) wrongEntry
     ∷ unless (between (m .entry) (p .retire) (m .age)) wrongAge
     ∷ unless (leb (m .salary) 100000000) wrongSalary
     ∷ []

@@ -2,6 +2,8 @@
 // of the heading and of the table, which crate `rules` has, then those of a member, RULES section 4 and rule 7.8. A refusal is
 // its number, and 0 is none. specs/ has what every contract is an equation with, the order of the rules, in Acceptance; and in
 // Rising the law of rule 7.9 for a plan that is accepted.
+use annuity::FIRST_AGE;
+use annuity::Rows;
 use plan::Member;
 use plan::Plan;
 use plan::benefit::accrued_benefit;
@@ -20,20 +22,21 @@ use rules::unless_between;
 ghost use mathlib.Core.Path.{_≡_};
 ghost use mathlib.Core.Bool.{_&&_};
 ghost use lib.Dec.{leb, ltb};
+ghost use Rattle.annuity.specs.Basis.{firstAge};
 ghost use Rattle.rules.specs.Refusals.{wrongId, wrongEntry};
 ghost use Rattle.rules.specs.Rules.{firstOf};
 ghost use Rattle.rules.specs.Rules.{unless as Rules·unless, between as Rules·between};
 ghost use Rattle.acceptance.specs.Acceptance.{planRefusal, fieldRules, memberRefusal, loneRefusal, answer};
 
 // The heading and the rows.
-pub fn plan_refusal(p: Plan, rows: [[u32; 4]; 106]) -> u64
+pub fn plan_refusal(p: Plan, rows: Rows) -> u64
     ensures { λ r. ⌜ r ≡ planRefusal p rows ⌝ }
 {
     or_else(head_refusal(p), rows_refusal(rows))
 }
 
 // A member of an accepted plan, after the member with the id `before`. Of its benefit rule 7.8 looks at B(r) alone.
-pub fn member_refusal(p: Plan, rows: &[[u32; 4]; 106], before: u64, m: Member) -> u64
+pub fn member_refusal(p: Plan, rows: &Rows, before: u64, m: Member) -> u64
     requires { ⌜ planRefusal p (now rows) ≡ 0 ⌝ }
     ensures { λ r. ⌜ r ≡ memberRefusal p (now (rows .entry)) before m ⌝ }
 {
@@ -56,9 +59,9 @@ fn fields_refusal(p: Plan, before: u64, m: Member) -> u64
 }
 
 fn entry_rule(retire: u64, entry: u64) -> u64
-    ensures { λ r. ⌜ r ≡ Rules·unless (leb 15 entry && ltb entry retire) wrongEntry ⌝ }
+    ensures { λ r. ⌜ r ≡ Rules·unless (leb firstAge entry && ltb entry retire) wrongEntry ⌝ }
 {
-    unless(both(15 <= entry, entry < retire), WRONG_ENTRY)
+    unless(both(FIRST_AGE as u64 <= entry, entry < retire), WRONG_ENTRY)
 }
 
 fn id_rule(before: u64, id: u64) -> u64
@@ -83,14 +86,14 @@ fn answer_of(number: u64) -> Acceptance
 }
 
 // Accepts a plan with its rows.
-pub fn accept_plan(p: Plan, rows: [[u32; 4]; 106]) -> Acceptance
+pub fn accept_plan(p: Plan, rows: Rows) -> Acceptance
     ensures { λ r. ⌜ r ≡ answer (planRefusal p rows) ⌝ }
 {
     answer_of(plan_refusal(p, rows))
 }
 
 // Rules 5.3 and 5.5: a lone member, after its plan.
-pub fn lone_refusal(p: Plan, rows: [[u32; 4]; 106], m: Member) -> u64
+pub fn lone_refusal(p: Plan, rows: Rows, m: Member) -> u64
     ensures { λ r. ⌜ r ≡ loneRefusal p rows m ⌝ }
 {
     let refusal = plan_refusal(p, rows);
@@ -101,7 +104,7 @@ pub fn lone_refusal(p: Plan, rows: [[u32; 4]; 106], m: Member) -> u64
 }
 
 // Accepts a lone member of a plan.
-pub fn accept_member(p: Plan, rows: [[u32; 4]; 106], m: Member) -> Acceptance
+pub fn accept_member(p: Plan, rows: Rows, m: Member) -> Acceptance
     ensures { λ r. ⌜ r ≡ answer (loneRefusal p rows m) ⌝ }
 {
     answer_of(lone_refusal(p, rows, m))

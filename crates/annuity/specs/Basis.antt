@@ -4,9 +4,16 @@ use Prim.Native.Nat.{ℕ, _-_, _≤_}
 use lib.ListN.{getD}
 use Rattle.annuity.specs.Rates.{death, withdrawal, disability, stays}
 
+-- rule 3.1: the first age of the table, and how many it has
+abbrev pub firstAge : ℕ
+firstAge = 15
+
+abbrev pub ages : ℕ
+ages = 106
+
 -- rule 3.1, the four numbers of age k: death, withdrawal and disability in millionths, and the weight
 abbrev pub row : List (List ℕ) → ℕ → List ℕ
-row rows k = getD rows (k - 15) []
+row rows k = getD rows (k - firstAge) []
 
 -- rule 3.5, the weight W(k): the salary scale
 abbrev pub weight : List (List ℕ) → ℕ → ℕ

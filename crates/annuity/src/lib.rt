@@ -18,8 +18,13 @@ ghost use Rattle.annuity.specs.Filled.{Filled, amountOf, factor};
 // Rule 8.1: one, in billionths.
 pub const S: u64 = 1_000_000_000;
 
-// Rule 3.1: a row for each age from 15 to 120: three rates and the weight.
-pub type Rows = [[u32; 4]; 106];
+// Rule 3.1: the ages of the table, and how many they are.
+pub const FIRST_AGE: usize = 15;
+pub const LAST_AGE: usize = 120;
+pub const AGES: usize = 106;
+
+// Rule 3.1: a row for each age: three rates and the weight.
+pub type Rows = [[u32; 4]; AGES];
 
 // One rate alone, in millionths: of a million, how many are left.
 fn left_by(rate: u32) -> u64

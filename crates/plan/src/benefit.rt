@@ -3,6 +3,8 @@ use crate::Formula;
 use crate::Member;
 use crate::Plan;
 use crate::wide;
+use annuity::FIRST_AGE;
+use annuity::Rows;
 ghost use mathlib.Core.Path.{_≡_};
 ghost use Prim.Native.Nat.{_-_, _*_, _≤_, _<_, min};
 ghost use Rattle.rounding.specs.Nearest.{nearest};
@@ -47,14 +49,14 @@ fn final_average(unit: u64, years: u64, salary: u64, weights: u64, n: u64, now: 
 }
 
 // The weights of the ages from a to b - 1, added up where they stand.
-pub fn weights_between(rows: &[[u32; 4]; 106], a: u64, b: u64) -> u64
+pub fn weights_between(rows: &Rows, a: u64, b: u64) -> u64
     requires { ⌜ Table (now rows) × (15 ≤ a) × (a ≤ b) × (b ≤ 120) ⌝ }
     ensures { λ r. ⌜ r ≡ summed (weight (now (rows .entry))) a (b - a) ⌝ }
 {
     let mut sum: u64 = 0;
     let mut k = a;
     while k < b {
-        let row = rows[k as usize - 15];
+        let row = rows[k as usize - FIRST_AGE];
         sum += wide(row[3]);
         k += 1;
     }
@@ -75,7 +77,7 @@ fn first_paid(formula: Formula, average: u64, entry: u64, k: u64) -> u64
 
 // Rules 7.3 to 7.7, B(k): what has accrued by age k. The ages whose pay it rests on go from `first` to k - 1, and `weights`
 // is the sum of theirs.
-fn benefit(p: Plan, rows: &[[u32; 4]; 106], m: Member, k: u64, first: u64, weights: u64) -> u64
+fn benefit(p: Plan, rows: &Rows, m: Member, k: u64, first: u64, weights: u64) -> u64
     requires { ⌜ PlanRanges p (now rows) × Placed p m × (m .entry ≤ k) × (k ≤ p .retire) × (first ≡ firstPaid (formulaOf (p .formula)) (p .average) (m .entry) k) × (weights ≡ summed (weight (now rows)) first (k - first)) ⌝ }
     ensures { λ r. ⌜ r ≡ B p (now (rows .entry)) m k ⌝ }
 {
@@ -84,7 +86,7 @@ fn benefit(p: Plan, rows: &[[u32; 4]; 106], m: Member, k: u64, first: u64, weigh
         return 0;
     }
     let years = k - entry;
-    let row = rows[m.age as usize - 15];
+    let row = rows[m.age as usize - FIRST_AGE];
     let now = wide(row[3]);
     let formula = formula_of(p.formula);
     match formula {
@@ -95,7 +97,7 @@ fn benefit(p: Plan, rows: &[[u32; 4]; 106], m: Member, k: u64, first: u64, weigh
 }
 
 // B(k), for an age k from entry to retirement.
-pub fn accrued_benefit(p: Plan, rows: &[[u32; 4]; 106], m: Member, k: u64) -> u64
+pub fn accrued_benefit(p: Plan, rows: &Rows, m: Member, k: u64) -> u64
     requires { ⌜ PlanRanges p (now rows) × Placed p m × (m .entry ≤ k) × (k ≤ p .retire) ⌝ }
     ensures { λ r. ⌜ r ≡ B p (now (rows .entry)) m k ⌝ }
 {

@@ -4,7 +4,7 @@ use mathlib.Core.List.{List, [], _∷_}
 use Prim.Native.Nat.{ℕ, zero, suc, _-_}
 use lib.ListN.{getD}
 use lib.Dec.{leb, ltb, eqb}
-use Rattle.annuity.specs.Basis.{row, weight}
+use Rattle.annuity.specs.Basis.{firstAge, row, weight}
 use Rattle.rules.specs.declared.rows.Row.{Row}
 use Rattle.rules.specs.Refusals.{outOfRange, wrongLastDeath, wrongWeight}
 use Rattle.rules.specs.Rules.{unless, firstOf, between}
@@ -28,7 +28,7 @@ module _ (rows : List (List ℕ)) where
   rowOf k = rowNumbers (row rows k)
 
   abbrev pub weightBefore : ℕ → ℕ
-  weightBefore k = cond (ltb 15 k) (weight rows (k - 1)) 0
+  weightBefore k = cond (ltb firstAge k) (weight rows (k - 1)) 0
 
   -- the first refusal of the n rows from age k on
   unfoldable pub rowsRefusal : ℕ → ℕ → ℕ

@@ -6,10 +6,14 @@ use crate::refusals::OUT_OF_RANGE;
 use crate::refusals::WRONG_LAST_DEATH;
 use crate::refusals::WRONG_WEIGHT;
 use crate::unless;
+use annuity::FIRST_AGE;
+use annuity::LAST_AGE;
+use annuity::Rows;
 use plan::wide;
 ghost use mathlib.Core.Path.{_≡_};
 ghost use mathlib.Core.Bool.{_&&_, cond, true};
 ghost use lib.Dec.{eqb, leb};
+ghost use Rattle.annuity.specs.Basis.{firstAge, ages};
 ghost use Rattle.rules.specs.Refusals.{outOfRange, wrongLastDeath, wrongWeight};
 ghost use Rattle.rules.specs.Rules.{firstOf};
 ghost use Rattle.rules.specs.Rules.{unless as Rules·unless, between as Rules·between};
@@ -59,7 +63,7 @@ fn rates_rule(death: u64, withdrawal: u64, disability: u64) -> u64
 fn last_age_rule(k: usize, death: u64) -> u64
     ensures { λ r. ⌜ r ≡ Rules·unless (cond (eqb k 120) (eqb death 1000000) true) wrongLastDeath ⌝ }
 {
-    if k == 120 {
+    if k == LAST_AGE {
         unless(death == 1_000_000, WRONG_LAST_DEATH)
     } else {
         0
@@ -76,13 +80,13 @@ fn weight_rule(before: u64, weight: u64) -> u64
 }
 
 // The first refusal of all rows.
-pub fn rows_refusal(rows: [[u32; 4]; 106]) -> u64
-    ensures { λ r. ⌜ r ≡ rowsRefusal rows 15 106 ⌝ }
+pub fn rows_refusal(rows: Rows) -> u64
+    ensures { λ r. ⌜ r ≡ rowsRefusal rows firstAge ages ⌝ }
 {
-    let mut k: usize = 15;
+    let mut k: usize = FIRST_AGE;
     let mut before: u64 = 0;
-    while k <= 120 {
-        let row = row_of(rows[k - 15]);
+    while k <= LAST_AGE {
+        let row = row_of(rows[k - FIRST_AGE]);
         let refusal = row_rule(k, before, row);
         if refusal != 0 {
             return refusal;
