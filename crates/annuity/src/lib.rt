@@ -20,7 +20,9 @@ pub const S: u64 = 1_000_000_000;
 
 // Rule 3.1: the ages of the table, and how many they are.
 pub const FIRST_AGE: usize = 15;
+
 pub const LAST_AGE: usize = 120;
+
 pub const AGES: usize = 106;
 
 // Rule 3.1: a row for each age: three rates and the weight.

@@ -16,12 +16,13 @@ use Rattle.fields.specs.Split.{uptoOf, pastOf}
 use Rattle.fields.specs.Values.{Values}
 use Rattle.fields.proofs.SplitLaws.{and-true-left, and-true-right}
 use Rattle.fields.proofs.AnswerLaws.{is-good, is-wrong, is-cut, Answers}
+use Rattle.annuity.specs.Basis.{ages}
 use Rattle.rules.specs.Rules.{firstOf, between}
 use Rattle.rules.specs.Table.{rowRules, rowNumbers, weightBefore}
 use Rattle.rules.proofs.TableLaws.{weight-passed}
 use Rattle.rules.proofs.RuleLaws.{all-kept, kept}
 use Rattle.walk.specs.Outcome.{refusal, settled}
-use Rattle.walk.specs.Lines.{rowOf, ages, dueAge, rowRefusal}
+use Rattle.walk.specs.Lines.{rowOf, dueAge, rowRefusal}
 use Rattle.walk.specs.Step.{table, right, withRow, afterRow, rowLine, lineOf}
 use Rattle.walk.specs.Walk.{walkFrom}
 use Rattle.walk.specs.Kept.{Each}

@@ -5,12 +5,13 @@ use mathlib.Core.List.{List, []}
 use mathlib.Core.Bool.{Bool, true, cond}
 use lib.ListN.{length, drop}
 use lib.Dec.{eqb}
+use Rattle.annuity.specs.Basis.{ages}
 use Rattle.plan.specs.declared.Plan.{Plan}
 use Rattle.plan.specs.declared.Member.{Member}
 use Rattle.rules.specs.Refusals.{bytesAfter, wrongCount}
 use Rattle.walk.specs.Outcome.{Outcome, values, refusal}
 use Rattle.walk.specs.Terms.{termForms, termRefusal}
-use Rattle.walk.specs.Lines.{ages, rowRefusal}
+use Rattle.walk.specs.Lines.{rowRefusal}
 use Rattle.walk.specs.Step.{Head, table, people}
 use Rattle.walk.specs.Walk.{Case, caseOf, start, walkFrom}
 use Rattle.walk.specs.Kept.{Each}

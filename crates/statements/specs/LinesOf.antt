@@ -4,7 +4,7 @@ use mathlib.Core.List.{List}
 use lib.ListN.{length}
 use Rattle.fields.specs.Split.{uptoOf, pastOf}
 use Rattle.walk.specs.Terms.{termForms}
-use Rattle.walk.specs.Lines.{ages}
+use Rattle.annuity.specs.Basis.{ages}
 
 -- what stands after n lines
 unfoldable pub linesPast : ℕ → List ℕ → List ℕ

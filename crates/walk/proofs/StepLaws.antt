@@ -13,11 +13,12 @@ use Rattle.fields.specs.Text.{bytes}
 use Rattle.fields.specs.Split.{startsOf}
 use Rattle.fields.specs.Numbers.{wholeOf}
 use Rattle.fields.specs.Values.{Values, found, misread, keyedOf}
+use Rattle.annuity.specs.Basis.{ages}
 use Rattle.plan.specs.declared.Member.{Member}
 use Rattle.rules.specs.Refusals.{wrongCount}
 use Rattle.rules.specs.Heading.{planFrom}
 use Rattle.walk.specs.Terms.{termForms, termForm, termRefusal}
-use Rattle.walk.specs.Lines.{rowOf, ages, dueAge, rowRefusal, Tail, person, end, surplus, neither, endMade, mostMembers, tailOf}
+use Rattle.walk.specs.Lines.{rowOf, dueAge, rowRefusal, Tail, person, end, surplus, neither, endMade, mostMembers, tailOf}
 use Rattle.walk.specs.Step.{Head, State, heading, table, people, ended, Line, wrong, right, withTerm, termLine, withRow, rowLine, lastId, personRefusal, tailLine, lineOf}
 use Rattle.walk.specs.Kept.{EachAfter, Each, Kept}
 use Rattle.walk.specs.Answers.{Part, in-heading, in-table, in-members, past-end, FormOf, term-form, row-form, count, tail-form, surplus as surplus-form, after-end, of-line}

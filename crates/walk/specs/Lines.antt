@@ -8,6 +8,7 @@ use Rattle.fields.specs.Text.{bytes}
 use Rattle.fields.specs.Split.{startsOf}
 use Rattle.fields.specs.Numbers.{wholeOf, amountOf}
 use Rattle.fields.specs.Values.{Values, found, misread, keyedOf}
+use Rattle.annuity.specs.Basis.{firstAge}
 use Rattle.plan.specs.declared.Member.{Member}
 use Rattle.rules.specs.Rules.{firstOf}
 use Rattle.rules.specs.Table.{rowRules, rowNumbers, weightBefore}
@@ -23,12 +24,9 @@ inTurn age misread = misread
 unfoldable pub rowOf : (age : ℕ) → List ℕ → Values
 rowOf age line = inTurn age (keyedOf (bytes "row=") wholeOf 4 line)
 
--- rule 3.1: a row for each age from 15 to 120, in turn
-abbrev pub ages : ℕ
-ages = 106
-
+-- rule 3.1: a row for each age, in turn
 abbrev pub dueAge : (rows : List (List ℕ)) → ℕ
-dueAge rows = length rows + 15
+dueAge rows = length rows + firstAge
 
 -- rules 3.2, 3.4 and 3.5 of a row after those before it
 abbrev pub rowRefusal : (before : List (List ℕ)) → (row : List ℕ) → ℕ
