@@ -29,7 +29,7 @@ element-copy-out-row c =
     let a = s .args in
     omega (arith, age-low (s .pre .0) (s .pre .1), age-high (s .pre .0) (s .pre .1))
 
--- a unit for each year fits a word, and so would one for each year of age: a wrong count of years fails at the benefit
+-- a unit for each year of service fits a word, and so would one for each year of age: a wrong count is refused as a benefit
 mul-result : tie.Need-mul-result
 mul-result c =
     let s = c .before .before .before .before .before .before .before in
