@@ -14,7 +14,7 @@ use Rattle.rules.specs.Table.{rowsRefusal}
 use Rattle.acceptance.specs.declared.Acceptance.{Acceptance}
 use Rattle.acceptance.specs.declared.Acceptance.the-variants.{Accepted, Refused}
 
--- rule 5.3, a plan with its rows, ages 15 to 120: the heading goes before the table
+-- rule 5.3, a plan with its rows, one for each age: the heading goes before the table
 unfoldable pub planRefusal : Plan → List (List ℕ) → ℕ
 planRefusal p rows = firstOf (firstOf (headRules p) ∷ rowsRefusal rows firstAge ages ∷ [])
 
@@ -24,7 +24,7 @@ planRefusal p rows = firstOf (firstOf (headRules p) ∷ rowsRefusal rows firstAg
 unfoldable pub fieldRules : Plan → (before : ℕ) → Member → List ℕ
 fieldRules p before m =
     unless (between 1 999999999 (m .id) && ltb before (m .id)) wrongId
-    ∷ unless (leb 15 (m .entry) && ltb (m .entry) (p .retire)) wrongEntry
+    ∷ unless (leb firstAge (m .entry) && ltb (m .entry) (p .retire)) wrongEntry
     ∷ unless (between (m .entry) (p .retire) (m .age)) wrongAge
     ∷ unless (leb (m .salary) 100000000) wrongSalary
     ∷ []

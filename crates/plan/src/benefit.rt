@@ -3,6 +3,7 @@ use crate::Formula;
 use crate::Member;
 use crate::Plan;
 use crate::wide;
+use rates::FIRST_AGE;
 use rates::Rows;
 ghost use mathlib.Core.Path.{_≡_};
 ghost use Prim.Native.Nat.{_-_, _*_, _≤_, _<_, min};
@@ -55,7 +56,7 @@ pub fn weights_between(rows: &Rows, a: u64, b: u64) -> u64
     let mut sum: u64 = 0;
     let mut k = a;
     while k < b {
-        let row = rows[k as usize - 15];
+        let row = rows[k as usize - FIRST_AGE];
         sum += wide(row[3]);
         k += 1;
     }
@@ -85,7 +86,7 @@ fn benefit(p: Plan, rows: &Rows, m: Member, k: u64, first: u64, weights: u64) ->
         return 0;
     }
     let years = k - entry;
-    let row = rows[m.age as usize - 15];
+    let row = rows[m.age as usize - FIRST_AGE];
     let now = wide(row[3]);
     let formula = formula_of(p.formula);
     match formula {

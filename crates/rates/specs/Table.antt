@@ -13,7 +13,7 @@ ages = 106
 
 -- the four numbers of age k: death, withdrawal and disability in millionths, and the weight
 abbrev pub row : List (List ℕ) → ℕ → List ℕ
-row rows k = getD rows (k - 15) []
+row rows k = getD rows (k - firstAge) []
 
 -- rule 3.5, the weight W(k): the salary scale
 abbrev pub weight : List (List ℕ) → ℕ → ℕ

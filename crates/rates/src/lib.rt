@@ -8,7 +8,11 @@ ghost use Rattle.rounding.specs.Nearest.{nearest};
 ghost use Rattle.rates.specs.Rates.{able as Rates·able, stays};
 ghost use Rattle.rates.specs.Table.{Sound, weight as Table·weight};
 
-// Rule 3.1: so many ages there are, from 15 to 120.
+// Rule 3.1: the ages of a table, and how many they are.
+pub const FIRST_AGE: usize = 15;
+
+pub const LAST_AGE: usize = 120;
+
 pub const AGES: usize = 106;
 
 // Rule 3.1: a row for each age: three rates and the weight.

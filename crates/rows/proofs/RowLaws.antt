@@ -16,12 +16,12 @@ use Rattle.fields.specs.Split.{uptoOf, pastOf}
 use Rattle.fields.specs.Values.{Values}
 use Rattle.fields.proofs.SplitLaws.{and-true-left, and-true-right}
 use Rattle.fields.proofs.AnswerLaws.{is-good, is-wrong, is-cut, Answers}
+use Rattle.rates.specs.Table.{ages}
 use Rattle.rules.specs.Rules.{firstOf, between}
 use Rattle.rules.specs.Table.{rowRules, rowNumbers, weightBefore}
 use Rattle.rules.proofs.TableLaws.{weight-passed}
 use Rattle.rules.proofs.RuleLaws.{all-kept, kept}
 use Rattle.walk.specs.Outcome.{refusal, settled}
-use Rattle.rates.specs.Table.{ages}
 use Rattle.walk.specs.Lines.{rowForm, dueAge, rowRefusal}
 use Rattle.walk.specs.Step.{table, right, withRow, afterRow, rowLine, verdictOf}
 use Rattle.walk.specs.Walk.{walkFrom}

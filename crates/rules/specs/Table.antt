@@ -28,7 +28,7 @@ module _ (rows : List (List ℕ)) where
   rowOf k = rowNumbers (row rows k)
 
   abbrev pub weightBefore : ℕ → ℕ
-  weightBefore k = cond (ltb 15 k) (weight rows (k - 1)) 0
+  weightBefore k = cond (ltb firstAge k) (weight rows (k - 1)) 0
 
   -- the first refusal of the n rows from age k on
   unfoldable pub rowsRefusal : ℕ → ℕ → ℕ

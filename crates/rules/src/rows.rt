@@ -6,8 +6,10 @@ use crate::refusals::OUT_OF_RANGE;
 use crate::refusals::WRONG_LAST_DEATH;
 use crate::refusals::WRONG_WEIGHT;
 use crate::unless;
-use plan::wide;
+use rates::FIRST_AGE;
+use rates::LAST_AGE;
 use rates::Rows;
+use plan::wide;
 ghost use mathlib.Core.Path.{_≡_};
 ghost use mathlib.Core.Bool.{_&&_, cond, true};
 ghost use lib.Dec.{eqb, leb};
@@ -61,7 +63,7 @@ fn rates_rule(death: u64, withdrawal: u64, disability: u64) -> u64
 fn last_age_rule(k: usize, death: u64) -> u64
     ensures { λ r. ⌜ r ≡ Rules·unless (cond (eqb k 120) (eqb death 1000000) true) wrongLastDeath ⌝ }
 {
-    if k == 120 {
+    if k == LAST_AGE {
         unless(death == 1_000_000, WRONG_LAST_DEATH)
     } else {
         0
@@ -81,10 +83,10 @@ fn weight_rule(before: u64, weight: u64) -> u64
 pub fn rows_refusal(rows: Rows) -> u64
     ensures { λ r. ⌜ r ≡ rowsRefusal rows firstAge ages ⌝ }
 {
-    let mut k: usize = 15;
+    let mut k: usize = FIRST_AGE;
     let mut before: u64 = 0;
-    while k <= 120 {
-        let row = row_of(rows[k - 15]);
+    while k <= LAST_AGE {
+        let row = row_of(rows[k - FIRST_AGE]);
         let refusal = row_rule(k, before, row);
         if refusal != 0 {
             return refusal;

@@ -9,6 +9,7 @@ use lib.Seq.{getD-at}
 use lib.Dec.{eqb, ltb}
 use native.Mathlib.Omega.{arith}
 use native.Mathlib.Nat.{add-zero}
+use Rattle.rates.specs.Table.{ages}
 use Rattle.plan.specs.declared.Member.{Member}
 use Rattle.rules.specs.Rules.{firstOf}
 use Rattle.rules.specs.Heading.{TermRule, termRules, termRule, termsOf, ruled, headRules, planFrom}
@@ -17,7 +18,6 @@ use Rattle.acceptance.specs.Acceptance.{planRefusal}
 use Rattle.rules.proofs.RuleLaws.{All-kept, all-kept, kept-all}
 use Rattle.walk.specs.Outcome.{values, refusal}
 use Rattle.walk.specs.Terms.{termForms, termRefusal}
-use Rattle.rates.specs.Table.{ages}
 use Rattle.walk.specs.Lines.{dueAge, rowRefusal}
 use Rattle.walk.specs.Step.{Head, State, heading, table, people, ended, lastId, personRefusal}
 use Rattle.walk.specs.Walk.{Case, linesOf, restOf, caseOf, closed, folded, start, walkFrom, walkOf}

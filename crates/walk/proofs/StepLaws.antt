@@ -13,11 +13,11 @@ use Rattle.fields.specs.Text.{bytes}
 use Rattle.fields.specs.Split.{startsOf}
 use Rattle.fields.specs.Numbers.{wholeOf}
 use Rattle.fields.specs.Values.{Values, found, misread, keyedOf}
+use Rattle.rates.specs.Table.{ages}
 use Rattle.plan.specs.declared.Member.{Member}
 use Rattle.rules.specs.Refusals.{wrongCount}
 use Rattle.rules.specs.Heading.{planFrom}
 use Rattle.walk.specs.Terms.{termForms, termForm, termRefusal}
-use Rattle.rates.specs.Table.{ages}
 use Rattle.walk.specs.Lines.{rowForm, dueAge, rowRefusal, Tail, person, end, surplus, neither, endMade, mostMembers, tailOf}
 use Rattle.walk.specs.Step.{Head, State, heading, table, people, ended, Verdict, wrong, right, withTerm, termLine, withRow, rowLine, lastId, personRefusal, tailLine, verdictOf}
 use Rattle.walk.specs.Kept.{EachAfter, Each, Kept}

@@ -6,10 +6,10 @@ use mathlib.Core.Bool.{Bool, true, false}
 use mathlib.Core.Logic.{_⊎_}
 use lib.ListN.{length, take}
 use Rattle.fields.specs.Split.{seekOf, hasOf, pastOf}
+use Rattle.rates.specs.Table.{ages}
 use Rattle.rules.specs.Refusals.{tooLarge, cutOff, bytesAfter, wrongCount, planForm, outOfRange, wrongAverage, wrongLastDeath, wrongWeight, memberForm, wrongId, wrongEntry, wrongAge, wrongSalary, highBenefit, surplusMember}
 use Rattle.walk.specs.Outcome.{values, refusal}
 use Rattle.walk.specs.Terms.{termForms}
-use Rattle.rates.specs.Table.{ages}
 use Rattle.walk.specs.Lines.{mostMembers}
 use Rattle.walk.specs.Walk.{Case, walkOf}
 use Rattle.walk.specs.Kept.{AcceptedCase}

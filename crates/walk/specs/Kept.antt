@@ -3,10 +3,10 @@ use Prim.Native.Nat.{ℕ, zero, suc, _≤_, _<_}
 use mathlib.Core.Path.{_≡_}
 use mathlib.Core.List.{List, [], _∷_, _++_}
 use lib.ListN.{length, getD}
+use Rattle.rates.specs.Table.{ages}
 use Rattle.plan.specs.declared.Member.{Member}
 use Rattle.acceptance.specs.Acceptance.{planRefusal, memberRefusal}
 use Rattle.walk.specs.Terms.{termRefusal}
-use Rattle.rates.specs.Table.{ages}
 use Rattle.walk.specs.Lines.{rowRefusal, mostMembers}
 use Rattle.walk.specs.Step.{Head, State, heading, table, people, ended, personRefusal}
 use Rattle.walk.specs.Walk.{Case}

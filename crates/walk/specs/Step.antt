@@ -5,13 +5,13 @@ use mathlib.Core.Bool.{Bool, cond}
 use lib.ListN.{length, getD}
 use lib.Dec.{leb, eqb}
 use Rattle.fields.specs.Values.{Values, found, misread}
+use Rattle.rates.specs.Table.{ages}
 use Rattle.plan.specs.declared.Member.{Member}
 use Rattle.rules.specs.Refusals.{bytesAfter, wrongCount, planForm, memberForm, surplusMember}
 use Rattle.rules.specs.Heading.{planFrom}
 use Rattle.acceptance.specs.Acceptance.{memberRefusal}
 use Rattle.walk.specs.Outcome.{Outcome, values, refusal, passing, settled}
 use Rattle.walk.specs.Terms.{termForms, termForm, termRefusal}
-use Rattle.rates.specs.Table.{ages}
 use Rattle.walk.specs.Lines.{rowForm, dueAge, rowRefusal, Tail, person, end, surplus, neither, mostMembers, tailOf}
 
 -- what the lines before the members hold

@@ -1,6 +1,6 @@
 -- `plan::benefit::benefit` meets its contract.
 use mathlib.Core.Path.{_≡_, sym, ap, _∙_}
-use Prim.Native.Nat.{ℕ, _-_, _*_}
+use Prim.Native.Nat.{ℕ, _-_, _*_, _≤_}
 use native.Mathlib.Nat.{mul-le-mul}
 use native.Mathlib.Omega.{arith}
 use Rattle.rounding.specs.Nearest.{nearest}
@@ -29,11 +29,13 @@ element-copy-out-row c =
     let a = s .args in
     omega (arith, age-low (s .pre .0) (s .pre .1), age-high (s .pre .0) (s .pre .1))
 
+-- a unit for each year of service fits a word, and so would one for each year of age: a wrong count is refused as a benefit
 mul-result : tie.Need-mul-result
 mul-result c =
     let s = c .before .before .before .before .before .before .before in
-    let a = s .args in
-    omega (arith, mul-le-mul {n₂ = 100000} {m₂ = 60} (s .pre .0 .head .flat-unit) (years-most (s .pre .0) (s .pre .1) (a .k) (s .pre .3)))
+    let unit = s .pre .0 .head .flat-unit in
+    let k : s .args .k ≤ 75 = omega (arith, s .pre .3, s .pre .0 .head .retire .1) in
+    omega (arith, mul-le-mul {n₂ = 100000} {m₂ = 60} unit (years-most (s .pre .0) (s .pre .1) (s .args .k) (s .pre .3)), mul-le-mul {n₂ = 100000} {m₂ = 75} unit k)
 
 career-requires : tie.Need-career-requires
 career-requires c κs =
