@@ -44,7 +44,7 @@ filled-first F top v low high e =
 
 -- ---- the factor
 -- a year's amount and step, by the row of the year's age
-pub year-by-row : (rows : List (List ℕ)) (r i : ℕ) (amount : Amount) (k f : ℕ) {row : List ℕ} → row ≡ getD rows (k - 15) []
+year-by-row : (rows : List (List ℕ)) (r i : ℕ) (amount : Amount) (k f : ℕ) {row : List ℕ} → row ≡ getD rows (k - 15) []
     → paidOf (getD row 3 0) amount + nearest (f * stays row r k) (100 * (10000 + i)) ≡ paidOf (basis rows r i .W k) amount + step (basis rows r i) k f
 unfolding staying step
 year-by-row rows r i amount k f e = rw e refl
@@ -54,10 +54,19 @@ module _ (b : Basis) (amount : Amount) (top start : ℕ) where
   unfolding factor
   factor-top = carried-at _ _ top
 
-  pub factor-before : (k : ℕ) → k < top
+  factor-before : (k : ℕ) → k < top
       → factor b amount top start k ≡ paidOf (b .W k) amount + step b k (factor b amount top start (k + 1))
   unfolding factor
   factor-before k h = carried-before _ _ k top h
+
+-- so the factor of an age is a year's amount m and step g, by the age's row and the factor f of the next
+pub factor-by-row : (rows : List (List ℕ)) (r i : ℕ) (amount : Amount) (top start k : ℕ) {row : List ℕ} {f m g : ℕ} → k < top
+    → row ≡ getD rows (k - 15) [] → f ≡ factor (basis rows r i) amount top start (k + 1)
+    → m ≡ paidOf (getD row 3 0) amount → g ≡ nearest (f * stays row r k) (100 * (10000 + i))
+    → m + g ≡ factor (basis rows r i) amount top start k
+factor-by-row rows r i amount top start k {row} {f} h own next m-is g-is =
+    let b : Basis = basis rows r i in
+    rw (m-is, g-is, factor-before b amount top start k h, ← next) (year-by-row rows r i amount k f own)
 
 amount-le : (weight : ℕ) (amount : Amount) → weight ≤ 100000 → paidOf weight amount ≤ 100000 * S
 unfolding paidOf

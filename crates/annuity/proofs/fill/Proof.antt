@@ -1,15 +1,14 @@
 -- `annuity::fill` meets its contract. The loop's invariant: each age from that of j on holds its factor. The measure is j.
-use mathlib.Core.Path.{_≡_, sym, ap, _∙_}
+use mathlib.Core.Path.{_≡_, sym, ap}
 use mathlib.Core.List.{[]}
 use Prim.Native.Nat.{ℕ, _+_, _-_, _≤_}
 use native.Mathlib.Omega.{arith}
 use lib.ListN.{getD}
 use Rattle.rates.specs.Table.{Sound}
 use Rattle.annuity.specs.Basis.{basis}
-use Rattle.annuity.specs.Factors.{step}
-use Rattle.annuity.specs.Filled.{Filled, paidOf, factor}
+use Rattle.annuity.specs.Filled.{Filled, factor}
 use Rattle.annuity.proofs.Bases.{basis-fair}
-use Rattle.annuity.proofs.Filling.{filled-first, filled-more, factor-top, factor-before, factor-most, year-by-row}
+use Rattle.annuity.proofs.Filling.{filled-first, filled-more, factor-top, factor-by-row, factor-most}
 use Rattle.annuity.proofs.fill.Statement.{statement}
 use Rattle.annuity.proofs.fill.Tie as tie
 
@@ -41,15 +40,11 @@ stored : (c : tie.After-step Inv-loop μ-loop) → let g = c .before .before .be
 stored c =
     let g = c .before .before .before .before .before .args in
     let l = c .before .before .before .before .loop in
-    let b = basis (g .t1) (g .r) (g .i) in
     let k : ℕ = l .j - 1 + 15 in
     let own : l .j - 1 ≡ k - 15 = omega arith in
     let next : k + 1 - 15 ≡ l .j = omega arith in
-    let later : getD (l .a) (l .j) 0 ≡ factor b (g .amount) (g .top) (g .start) (k + 1) = rw next at (l .inv .1 .upto (k + 1) (omega arith) (omega arith)) in
-    (λ i. c .before .amount-of .ensures i + c .step .ensures i)
-    ∙ year-by-row (g .t1) (g .r) (g .i) (g .amount) k (getD (l .a) (l .j) 0) (ap (λ (n : ℕ). getD (g .t1) n []) own)
-    ∙ ap (λ (f : ℕ). paidOf (b .W k) (g .amount) + step b k f) later
-    ∙ sym (factor-before b (g .amount) (g .top) (g .start) k (omega arith))
+    factor-by-row (g .t1) (g .r) (g .i) (g .amount) (g .top) (g .start) k (omega arith) (ap (λ (n : ℕ). getD (g .t1) n []) own)
+    (rw next at (l .inv .1 .upto (k + 1) (omega arith) (omega arith))) (c .before .amount-of .ensures) (c .step .ensures)
 
 add-a : tie.Need-add-a Inv-loop μ-loop
 add-a c =

@@ -1,5 +1,4 @@
 -- `rates::able` meets its contract.
-use Prim.Native.Nat.{_-_}
 use native.Mathlib.Omega.{arith}
 use Rattle.rates.specs.Rates.{able}
 use Rattle.rates.proofs.able.Statement.{statement}
