@@ -20,7 +20,7 @@ use Rattle.plan.specs.Acceptance.{fieldRules, benefitRules, memberRefusal, Acce
 use Rattle.plan.proofs.Facts.{all-kept, plan-facts, member-facts}
 use Rattle.costs.specs.declared.Figures.{Figures}
 use Rattle.costs.specs.Valuation.{figures}
-use Rattle.costs.proofs.FigureSizes.{Small, figures-small}
+use Rattle.parts.proofs.FigureSizes.{Small, figures-small}
 use Rattle.walk.specs.Kept.{nobody, idBefore}
 use Rattle.walk.proofs.Accepted.{accepted-keeps}
 use Rattle.casefile.specs.Answers.{acceptingOf}
