@@ -1,9 +1,7 @@
--- Demand 3, roll-forward and the equal forms of the liability (RollForward, EqualForms), and the limits (Quotients, Limits); and the figures from their parts (PartLaws).
+-- Demand 3, roll-forward and the equal forms of the liability (RollForward, EqualForms), and the limits (Quotients, Limits).
 pub mod RollForward
 pub mod EqualForms
 pub mod Quotients
 pub mod Limits
 pub mod Needs
 pub mod Answers
-pub mod PartLaws
-pub mod FigureSizes

@@ -2,5 +2,4 @@ pub mod Setting
 pub mod Costs
 pub mod Demand3
 pub mod Valuation
-pub mod Parts
 pub mod Figures

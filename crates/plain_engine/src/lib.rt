@@ -1,13 +1,13 @@
-// The plain engine: a member's figures by factors of its own. parts.rt works the parts, of which the crate costs makes the
-// figures. `value_member` is the entry: it has no `requires`, and its contract is the figures' equation and the limits
+// The plain engine: a member's figures by factors of its own. factors.rt works the parts, of which the crate parts makes
+// the figures. `value_member` is the entry: it has no `requires`, and its contract is the figures' equation and the limits
 // on its N and L.
-mod parts;
+mod factors;
 
 use acceptance::lone_refusal;
 use costs::Figures;
 use costs::Valuation;
-use costs::method_of;
-use costs::parts::figures_from;
+use parts::figures_from;
+use parts::method_of;
 use plan::Member;
 use plan::Plan;
 use rates::Rows;
@@ -33,6 +33,6 @@ pub fn figures_of(p: Plan, rows: Rows, m: Member) -> Figures
     ensures { λ f. ⌜ f ≡ figures p rows m ⌝ }
 {
     let method = method_of(p.method);
-    let parts = parts::parts_at(p, &rows, m, method, m.age as usize);
+    let parts = factors::parts_at(p, &rows, m, method, m.age as usize);
     figures_from(parts, method)
 }

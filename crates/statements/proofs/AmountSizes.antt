@@ -22,7 +22,7 @@ use Rattle.rules.proofs.RuleLaws.{all-kept}
 use Rattle.acceptance.proofs.Facts.{plan-facts, member-facts}
 use Rattle.costs.specs.declared.Figures.{Figures}
 use Rattle.costs.specs.Valuation.{figures}
-use Rattle.costs.proofs.FigureSizes.{Small, figures-small}
+use Rattle.parts.proofs.FigureSizes.{Small, figures-small}
 use Rattle.walk.specs.Kept.{nobody, idBefore}
 use Rattle.walk.proofs.Accepted.{accepted-keeps}
 use Rattle.casefile.specs.Answers.{acceptingOf}

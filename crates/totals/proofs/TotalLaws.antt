@@ -20,7 +20,7 @@ use Rattle.plan.specs.declared.Plan.{Plan}
 use Rattle.plan.specs.declared.Member.{Member}
 use Rattle.costs.specs.declared.Figures.{Figures}
 use Rattle.costs.specs.Valuation.{figures}
-use Rattle.costs.proofs.FigureSizes.{figures-small}
+use Rattle.parts.proofs.FigureSizes.{figures-small}
 use Rattle.members.specs.Array.{memberAt}
 use Rattle.totals.specs.Totals.{total, totals}
 use Rattle.totals.specs.Worked.{AcceptedMembers, figuresStored, figuresIn, membersIn, AreWorked, sumIn, sumsIn, Small, SmallIn}

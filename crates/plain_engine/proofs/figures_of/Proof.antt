@@ -2,8 +2,8 @@
 use mathlib.Core.Path.{ap, _∙_}
 use Rattle.plan.specs.declared.Method.{Method}
 use Rattle.costs.specs.Valuation.{figuresAt, figures}
-use Rattle.costs.specs.Parts.{Gives}
-use Rattle.costs.proofs.PartLaws.{from-parts}
+use Rattle.parts.specs.Parts.{Gives}
+use Rattle.parts.proofs.PartLaws.{from-parts}
 use borrow.Author.Needs.{needs}
 use Rattle.plain_engine.proofs.figures_of.Statement.{statement}
 use Rattle.plain_engine.proofs.figures_of.Tie as tie

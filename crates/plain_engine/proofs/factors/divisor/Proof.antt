@@ -1,0 +1,23 @@
+-- `plain_engine::factors::divisor` meets its contract.
+use borrow.Author.Needs.{needs}
+use Rattle.plain_engine.proofs.factors.divisor.Statement.{statement}
+use Rattle.plain_engine.proofs.factors.divisor.Tie as tie
+
+pub divisor-spec : {M : Type 1} → statement M
+divisor-spec =
+    tie.close
+    (tie.spec
+    (λ c. search needs)
+    (λ c. search needs)
+    (λ c. search needs)
+    (λ c. search needs)
+    (λ c κs. search needs)
+    (λ c. search needs)
+    (λ c κs. search needs)
+    (λ c. search needs)
+    (λ c κs. search needs)
+    (λ c. rw (c .enum-told .given .1))
+    (λ c. rw (c .before .before .enum-told2 .given .1))
+    (λ c. rw (c .before .enum-told3 .given .1) (c .weights-from-entry .ensures))
+    (λ c. rw (c .before .enum-told4 .given .1) (c .working-from-entry .ensures))
+    (λ c. rw (c .before .enum-told5 .given .1) (c .pay-from-entry .ensures)))
