@@ -3,12 +3,9 @@
 //! turns, and the best round of each counts. Exits 1 where an answer differs, of these files or of many damaged ones.
 //!
 //! The same on both sides: the grammar, the rules in their order, the answer, and in accepting B(r) of each member. What
-//! differs:
-//! - Reading in Rattle stores the rows and the members, in arrays that it clears first and throws away; form.rs keeps
-//!   none. Accepting keeps both on either side: Rattle in such arrays, copied out once all is accepted, so that a
-//!   refusal leaves the caller's as they were; reader.rs in an array and a Vec that grows, handed back as they are.
-//! - Rattle reads every line by one function, which takes its key, its count of commas and its last value's form as
-//!   arguments; the Rust programs have the key and the fields in the code.
+//! differs: reading in Rattle stores the rows and the members, in arrays that it clears first and throws away; form.rs
+//! keeps none. Accepting keeps both on either side: Rattle in such arrays, copied out once all is accepted, so that a
+//! refusal leaves the caller's as they were; reader.rs in an array and a Vec that grows, handed back as they are.
 #[expect(dead_code, reason = "what is read is not valued here")]
 mod factors;
 mod files;
@@ -156,8 +153,8 @@ fn main() {
     let title = format!("one file, µs, best of {ROUNDS} rounds");
     println!("{title:62} {:>8} {:>8} {:>7}", "Rattle", "Rust", "ratio");
     cases.iter().for_each(Case::print);
-    println!("what differs: Rattle reads every line by one function, with its key as an argument, and clears the arrays");
-    println!("that it fills; where it accepts it copies them out. Rust goes once over the bytes, and keeps nothing where it reads");
+    println!("what differs: Rattle fills arrays, which it clears first, and copies them out where it accepts; Rust keeps");
+    println!("nothing where it reads");
     let mut random = Random(1);
     cases.iter().for_each(|case| case.compare(&mut random));
     println!("{} damaged files: the same answers", cases.len() * DAMAGED);

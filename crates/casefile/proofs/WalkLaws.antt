@@ -21,7 +21,7 @@ use Rattle.heading.specs.Stretch.{HeadKept, HeadDone, HeadIs}
 use Rattle.rows.specs.Stretch.{RowsDone, RowsAre}
 use Rattle.members.specs.declared.Count.{Count}
 use Rattle.members.specs.declared.Count.the-variants.{Counted, Refused as CountRefused}
-use Rattle.members.specs.Stretch.{Fits, MembersAre}
+use Rattle.members.specs.Stretch.{SameHead, MembersAre}
 use Rattle.casefile.specs.declared.Walked.{Walked}
 use Rattle.casefile.specs.declared.Walked.the-variants.{Whole, Refused as WalkedRefused}
 use Rattle.casefile.specs.Stretch.{WalkIs}
@@ -43,7 +43,7 @@ module _ (ranges : Bool) (first : ℕ) (s : List ℕ) (r : Stretch) (array : Lis
         let d = rows-are is in
         rw (plan, d .exact on) (plan-kept terms (d .rows) (head .size) (d .size) .1 (head .kept on, d .kept on))
 
-    module _ {rest : List ℕ} (cut : rest ≡ drop at s) (c : Count) (members : List (List ℕ)) (rest-is : (h : Head) → Fits ranges p array h → MembersAre ranges h line rest c members) where
+    module _ {rest : List ℕ} (cut : rest ≡ drop at s) (c : Count) (members : List (List ℕ)) (rest-is : (h : Head) → SameHead ranges p array h → MembersAre ranges h line rest c members) where
       here : MembersAre ranges (tabled terms (rows-are is .rows)) line (drop at s) c members
       here =
           let d = rows-are is in

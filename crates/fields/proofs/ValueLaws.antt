@@ -37,7 +37,10 @@ pub record Along (holds : List ℕ → Values) (last : List ℕ → Number) (s :
 
 -- a whole number and its comma
 module _ {holds : List ℕ → Values} {last : List ℕ → Number} {s : List ℕ} (n : ℕ) {us : List ℕ} {at : ℕ} (a : Along holds last s (n + 1) us at) {r : Field} (read : r ≡ fieldOf wholeOf 44 at s) where
-  comma : valuesOf last (n + 1) (uptoOf 10 (drop at s)) ≡ cond (hasOf 44 (uptoOf 10 (drop at s))) (before (wholeOf (uptoOf 44 (uptoOf 10 (drop at s)))) (valuesOf last n (pastOf 44 (uptoOf 10 (drop at s))))) misread
+  abbrev line : List ℕ
+  line = uptoOf 10 (drop at s)
+
+  comma : valuesOf last (n + 1) line ≡ cond (hasOf 44 line) (before (wholeOf (uptoOf 44 line)) (valuesOf last n (pastOf 44 line))) misread
   unfolding valuesOf
   comma = rw (add-one n)
 
@@ -46,7 +49,7 @@ module _ {holds : List ℕ → Values} {last : List ℕ → Number} {s : List �
       let f = field-is wholeOf 44 at s read is in
       let b = field-before 44 (omega arith) (λ e. omega arith) at s read is in
       let rest = valuesOf last n (uptoOf 10 (drop (e + 1) s)) in
-      let on : valuesOf last (n + 1) (uptoOf 10 (drop at s)) ≡ before (value v) rest = comma ∙ rw (b .has, b .upto, b .past, f .is, f .rest) in
+      let on : valuesOf last (n + 1) line ≡ before (value v) rest = comma ∙ rw (b .has, b .upto, b .past, f .is, f .rest) in
       record {
         way = a .way ∙ ap (prefix us) on ∙ prefix-one us v rest;
         has = a .has ∙ b .has10 ∙ rw (f .rest);
@@ -55,9 +58,9 @@ module _ {holds : List ℕ → Values} {last : List ℕ → Number} {s : List �
 
   pub comma-wrong : {l : Line} (known : Type 0) → r ≡ NotField → l ≡ cond (hasOf 10 s) Wrong Cut → Answers holds s l known
   comma-wrong known is unread =
-      answers-unread holds s known (λ has. a .way ∙ ap (prefix us) (comma ∙ pick (hasOf 44 (uptoOf 10 (drop at s))) refl)) unread
+      answers-unread holds s known (λ has. a .way ∙ ap (prefix us) (comma ∙ pick (hasOf 44 line) refl)) unread
     where
-      pick : (t : Bool) → hasOf 44 (uptoOf 10 (drop at s)) ≡ t → cond (hasOf 44 (uptoOf 10 (drop at s))) (before (wholeOf (uptoOf 44 (uptoOf 10 (drop at s)))) (valuesOf last n (pastOf 44 (uptoOf 10 (drop at s))))) misread ≡ misread
+      pick : (t : Bool) → hasOf 44 line ≡ t → cond (hasOf 44 line) (before (wholeOf (uptoOf 44 line)) (valuesOf last n (pastOf 44 line))) misread ≡ misread
       pick true h = rw (h, field-not 44 (omega arith) (λ e. omega arith) at s read is h)
       pick false h = rw h
 

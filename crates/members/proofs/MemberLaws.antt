@@ -27,7 +27,7 @@ use Rattle.members.specs.declared.Count.{Count}
 use Rattle.members.specs.declared.Count.the-variants.{Counted, Refused}
 use Rattle.members.specs.Array.{numbersOf, arrayOf}
 use Rattle.members.specs.Tails.{kindOf, TailHeld}
-use Rattle.members.specs.Stretch.{Fits, MembersAre, endCount}
+use Rattle.members.specs.Stretch.{SameHead, MembersAre, endCount}
 use Rattle.members.proofs.LineLaws.{tail-cut, tail-surplus, tail-neither, tail-person, tail-end}
 use Rattle.members.proofs.ArrayLaws.{array-next}
 
@@ -63,7 +63,7 @@ pub record MembersRead (ranges : Bool) (p : Plan) (rows : List (List ℕ)) (firs
   pub within : at ≤ length s
   pub id : before ≡ lastId members
   pub held : array ≡ arrayOf members
-  pub way : (h : Head) → Fits ranges p rows h → walkFrom ranges first (people h []) s ≡ walkFrom ranges (first + count) (people h members) (drop at s)
+  pub way : (h : Head) → SameHead ranges p rows h → walkFrom ranges first (people h []) s ≡ walkFrom ranges (first + count) (people h members) (drop at s)
 
 pub members-none : (ranges : Bool) (p : Plan) (rows : List (List ℕ)) (first : ℕ) (s : List ℕ) → MembersRead ranges p rows first s (replicate mostMembers (replicate 4 0)) 0 0 0
 unfolding arrayOf
@@ -79,7 +79,7 @@ module _ {ranges : Bool} {p : Plan} {rows : List (List ℕ)} {first : ℕ} {s : 
   read : (r ≡ kindOf (eqb count 1000) (drop at s)) × TailHeld (eqb count 1000) (drop at s) r values
   read = rw cut at given
 
-  module _ (h : Head) (fits : Fits ranges p rows h) where
+  module _ (h : Head) (fits : SameHead ranges p rows h) where
     form : {x : Tail} (ahead : List ℕ) → tailOf (eqb count 1000) (uptoOf 10 (drop at s)) ≡ x → verdictOf (people h (i .members)) (uptoOf 10 (drop at s)) ahead ≡ tailLine h (i .members) x
     unfolding verdictOf
     form ahead is = rw (i .many, ← full-same count (i .few), is)
@@ -106,7 +106,7 @@ module _ {ranges : Bool} {p : Plan} {rows : List (List ℕ)} {first : ℕ} {s : 
     pub end-size : length values ≡ 5
     end-size = read .1 .count e is .1
 
-    module _ (h : Head) (fits : Fits ranges p rows h) where
+    module _ (h : Head) (fits : SameHead ranges p rows h) where
       tail : verdictOf (people h (i .members)) (uptoOf 10 (drop at s)) (uptoOf 10 (pastOf 10 (drop at s))) ≡ cond (eqb (getD values 0 0) count) (right 0 (ended h (i .members))) (wrong 0 4)
       tail = form h fits (uptoOf 10 (pastOf 10 (drop at s))) (read .1 .count e is .0) ∙ rw (i .many)
 
@@ -123,7 +123,7 @@ module _ {ranges : Bool} {p : Plan} {rows : List (List ℕ)} {first : ℕ} {s : 
           ∙ line-passed ranges (first + count) (people h (i .members)) (drop at s) (g .has) (tail ∙ rw (eq-eqb (getD values 0 0) count same)) (sym (settled-none ranges)) refl (next-rest s at e g)
           ∙ after-end ranges (first + count + 1) h (i .members) (drop (at + (e + 1)) s) ∙ rw (length-drop (at + (e + 1)) s)
 
-    pub members-end : {c : Count} (after : ℕ) → after ≡ length s - (at + (e + 1)) → c ≡ endCount (getD values 0 0) count (first + count) after → (h : Head) → Fits ranges p rows h → MembersAre ranges h first s c array
+    pub members-end : {c : Count} (after : ℕ) → after ≡ length s - (at + (e + 1)) → c ≡ endCount (getD values 0 0) count (first + count) after → (h : Head) → SameHead ranges p rows h → MembersAre ranges h first s c array
     unfolding MembersAre
     members-end {c} after left answer h fits =
         rw (answer, left) (go (eqb (getD values 0 0) count) refl (eqb (length s - (at + (e + 1))) 0) refl)
@@ -143,13 +143,13 @@ module _ {ranges : Bool} {p : Plan} {rows : List (List ℕ)} {first : ℕ} {s : 
     room = ⊎-elim (λ (full : count ≡ 1000). full-none (uptoOf 10 (drop at s)) (memberFrom values) (rw (eq-eqb count 1000 full) at (read .1 .member e is .0))) (λ l. l) (eq-or-lt-of-le (i .few))
 
     module _ {m : Member} {x : ℕ} (made : m ≡ memberFrom values) (rule : x ≡ settled ranges (memberRefusal p rows before m)) where
-      good : (h : Head) → Fits ranges p rows h → verdictOf (people h (i .members)) (uptoOf 10 (drop at s)) (uptoOf 10 (pastOf 10 (drop at s))) ≡ right (personRefusal h (i .members) m) (people h (i .members ++ m ∷ []))
+      good : (h : Head) → SameHead ranges p rows h → verdictOf (people h (i .members)) (uptoOf 10 (drop at s)) (uptoOf 10 (pastOf 10 (drop at s))) ≡ right (personRefusal h (i .members) m) (people h (i .members ++ m ∷ []))
       good h fits = form h fits (uptoOf 10 (pastOf 10 (drop at s))) (read .1 .member e is .0) ∙ rw made
 
-      judged : (h : Head) → Fits ranges p rows h → x ≡ settled ranges (personRefusal h (i .members) m)
+      judged : (h : Head) → SameHead ranges p rows h → x ≡ settled ranges (personRefusal h (i .members) m)
       judged h fits = rule ∙ settled-same ranges (λ on. let f = fits on in rw (f .0, f .1, i .id))
 
-      pub members-refused : (x ≡ 0 → ⊥) → (h : Head) → Fits ranges p rows h → walkFrom ranges first (people h []) s ≡ refusal x (first + count)
+      pub members-refused : (x ≡ 0 → ⊥) → (h : Head) → SameHead ranges p rows h → walkFrom ranges first (people h []) s ≡ refusal x (first + count)
       members-refused some h fits =
           i .way h fits ∙ line-refused ranges (first + count) (people h (i .members)) (drop at s) (tail-person (eqb count 1000) (drop at s) (read .0) is .has) (good h fits) (judged h fits) some
 

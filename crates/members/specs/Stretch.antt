@@ -17,8 +17,8 @@ use Rattle.members.specs.declared.Count.the-variants.{Counted, Refused}
 use Rattle.members.specs.Array.{arrayOf}
 
 -- where the ranges are settled, a plan and its rows are those of a head
-abbrev pub Fits : (ranges : Bool) → Plan → List (List ℕ) → Head → Type 0
-Fits ranges p rows h = ranges ≡ true → (p ≡ planFrom (h .terms)) × (rows ≡ h .rows)
+abbrev pub SameHead : (ranges : Bool) → Plan → List (List ℕ) → Head → Type 0
+SameHead ranges p rows h = ranges ≡ true → (p ≡ planFrom (h .terms)) × (rows ≡ h .rows)
 
 -- the members and the end, after a head
 pub record MembersDone (ranges : Bool) (h : Head) (first : ℕ) (s : List ℕ) (n : ℕ) (array : List (List ℕ)) : Type 0 where

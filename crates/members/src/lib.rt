@@ -28,7 +28,7 @@ ghost use Rattle.walk.specs.Lines.{memberFrom};
 ghost use Rattle.walk.specs.Step.{Head};
 ghost use Rattle.members.specs.Tails.{kindOf, TailHeld};
 ghost use Rattle.members.specs.Array.{numbersOf};
-ghost use Rattle.members.specs.Stretch.{Fits, MembersAre, endCount};
+ghost use Rattle.members.specs.Stretch.{SameHead, MembersAre, endCount};
 
 // What kind of line stands after the rows: a member or the end, with the place of its byte 10; or one of three faults.
 pub enum Kind {
@@ -154,7 +154,7 @@ pub fn member_lines(
     members: &mut Members,
 ) -> Count
     requires { ⌜ (ranges ≡ true → planRefusal p (now rows) ≡ 0) × (first ≤ 65642) ⌝ }
-    ensures { λ r. ⌜ ((h : Head) → Fits ranges p (now (rows .entry)) h → MembersAre ranges h first (now (s .entry)) r (now (members .exit))) ⌝ }
+    ensures { λ r. ⌜ ((h : Head) → SameHead ranges p (now (rows .entry)) h → MembersAre ranges h first (now (s .entry)) r (now (members .exit))) ⌝ }
 {
     // Nothing that the caller left there is taken for a member.
     *members = [[0u64; 4]; MOST_MEMBERS];

@@ -4,7 +4,7 @@ use mathlib.Core.List.{List, [], _∷_}
 use Prim.Native.Nat.{ℕ, zero, suc, _-_}
 use lib.ListN.{getD}
 use lib.Dec.{leb, ltb, eqb}
-use Rattle.rates.specs.Table.{row, weight}
+use Rattle.rates.specs.Table.{firstAge, row, weight}
 use Rattle.rules.specs.declared.rows.Row.{Row}
 use Rattle.rules.specs.Refusals.{outOfRange, wrongLastDeath, wrongWeight}
 use Rattle.rules.specs.Rules.{unless, firstOf, between}
