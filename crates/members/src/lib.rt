@@ -18,8 +18,7 @@ use rules::refusals::SURPLUS_MEMBER;
 use rules::refusals::WRONG_COUNT;
 ghost use mathlib.Core.Path.{_≡_};
 ghost use mathlib.Core.Bool.{true, false};
-ghost use Prim.Native.Nat.{_≤_, _<_};
-ghost use lib.ListN.{set};
+ghost use Prim.Native.Nat.{_≤_};
 ghost use Rattle.fields.specs.Text.{bytes};
 ghost use Rattle.fields.specs.Split.{startsOf};
 ghost use Rattle.acceptance.specs.Acceptance.{planRefusal, memberRefusal};
@@ -27,7 +26,6 @@ ghost use Rattle.walk.specs.Outcome.{settled};
 ghost use Rattle.walk.specs.Lines.{memberFrom};
 ghost use Rattle.walk.specs.Step.{Head};
 ghost use Rattle.members.specs.Tails.{kindOf, TailHeld};
-ghost use Rattle.members.specs.Array.{numbersOf};
 ghost use Rattle.members.specs.Stretch.{SameHead, MembersAre, endCount};
 
 // What kind of line stands after the rows: a member or the end, with the place of its byte 10; or one of three faults.
@@ -101,14 +99,6 @@ fn member_from(values: &Read) -> Member
     }
 }
 
-// Writes the numbers of a member to place j of the array.
-fn store_member(members: &mut Members, j: usize, m: Member)
-    requires { ⌜ j < 1000 ⌝ }
-    ensures { λ _. ⌜ now (members .exit) ≡ set (now (members .entry)) j (numbersOf m) ⌝ }
-{
-    members[j] = [m.id, m.entry, m.age, m.salary];
-}
-
 // The range rules of a member where the ranges are settled: a number, 0 for none.
 fn member_refusal(ranges: bool, p: Plan, rows: &Rows, before: u64, m: Member) -> u64
     requires { ⌜ (ranges ≡ true → planRefusal p (now rows) ≡ 0) ⌝ }
@@ -171,7 +161,8 @@ pub fn member_lines(
                 if refusal != 0 {
                     return Count::Refused(refusal, line);
                 }
-                store_member(members, count as usize, m);
+                let j = count as usize;
+                members[j] = [m.id, m.entry, m.age, m.salary];
                 before = m.id;
                 at += e + 1;
                 count += 1;

@@ -104,10 +104,9 @@ module _ {ranges : Bool} {first : ℕ} {s : List ℕ} {array : List (List ℕ)} 
     pub rows-place : at + (e + 1) ≤ length s
     rows-place = next-within s at e (is-good (rowForm (k + 15)) (drop at s) (read .0) is)
 
-    pub rows-next : {array' : List (List ℕ)} → x ≡ 0 → array' ≡ set array k (map narrowOf (fourOf values)) → RowsRead ranges first s array' (line + 1) (at + (e + 1)) (k + 1) (getD values 4 0)
-    rows-next h put =
+    pub rows-next : {row : List ℕ} → x ≡ 0 → row ≡ map narrowOf (fourOf values) → RowsRead ranges first s (set array k row) (line + 1) (at + (e + 1)) (k + 1) (getD values 4 0)
+    rows-next {row} h narrow =
         let four = fourOf values in
-        let row = map narrowOf four in
         let g = is-good (rowForm (k + 15)) (drop at s) (read .0) is in
         let long = length-append (i .rows) (four ∷ []) in
         let stored : take (k + 1) (set array k row) ≡ take k array ++ row ∷ [] = rw (add-one k) (take-suc-set array k row (omega (arith, i .size))) in
@@ -115,12 +114,12 @@ module _ {ranges : Bool} {first : ℕ} {s : List ℕ} {array : List (List ℕ)} 
         record {
           rows = i .rows ++ four ∷ [];
           many = omega (arith, i .many, long);
-          size = ap length put ∙ length-set array k row ∙ i .size;
+          size = length-set array k row ∙ i .size;
           few = omega arith;
           place = omega (arith, i .place);
           within = next-within s at e g;
           weighed = rw older (sym (weight-next (i .rows) four (omega (arith, i .many))));
-          held = ap (take (k + 1)) put ∙ stored ∙ rw (i .held) (sym (map-append (map narrowOf) (i .rows) (four ∷ [])));
+          held = stored ∙ rw (i .held, narrow) (sym (map-append (map narrowOf) (i .rows) (four ∷ [])));
           exact = λ on. map-append (map narrowOf) (i .rows) (four ∷ []) ∙ rw (i .exact on, row-narrow (k + 15) before values (sym (rule ∙ rw on) ∙ h));
           kept = λ on. each-next rowRefusal [] (i .rows) four .1 (i .kept on, sym (judged ∙ rw on) ∙ h);
           way = λ t. due t ∙ line-passed ranges line (table (tabled t (i .rows))) (drop at s) (g .has) (good t) judged h (next-rest s at e g);

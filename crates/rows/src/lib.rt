@@ -12,8 +12,7 @@ use rules::rows::row_rule;
 use stretches::Stretch;
 ghost use mathlib.Core.Path.{_≡_};
 ghost use mathlib.Core.List.{map};
-ghost use Prim.Native.Nat.{ℕ, _≤_, _<_};
-ghost use lib.ListN.{set};
+ghost use Prim.Native.Nat.{ℕ, _≤_};
 ghost use Rattle.fields.specs.declared.lines.Line.the-variants.{Good};
 ghost use Rattle.fields.specs.Split.{uptoOf};
 ghost use Rattle.fields.specs.Values.{lineOf};
@@ -70,17 +69,15 @@ fn narrow(x: u64) -> u32
     }
 }
 
-// Writes the four numbers of a row to place k of the table.
-fn store_row(rows: &mut Rows, k: usize, values: &Read)
-    requires { ⌜ k < 106 ⌝ }
-    ensures { λ _. ⌜ now (rows .exit) ≡ set (now (rows .entry)) k (map narrowOf (fourOf (now (values .entry)))) ⌝ }
+fn narrow_row(values: &Read) -> [u32; 4]
+    ensures { λ r. ⌜ r ≡ map narrowOf (fourOf (now (values .entry))) ⌝ }
 {
-    rows[k] = [
+    [
         narrow(values[1]),
         narrow(values[2]),
         narrow(values[3]),
         narrow(values[4]),
-    ];
+    ]
 }
 
 // Reads the rows from a line on, up to the first that is refused, and settles their ranges too where that is asked for.
@@ -103,7 +100,7 @@ pub fn row_lines(s: &[u8], first: u64, ranges: bool, rows: &mut Rows) -> Stretch
                 if refusal != 0 {
                     return Stretch::Refused(refusal, line);
                 }
-                store_row(rows, k, &values);
+                rows[k] = narrow_row(&values);
                 before = values[4];
                 at += e + 1;
             }

@@ -1,5 +1,6 @@
 -- `members::member_lines` meets its contract. The loop's invariant: so many members are read, and the walk goes on from here.
 use Prim.Native.Nat.{_+_, _-_}
+use mathlib.Core.Path.{refl}
 use lib.ListN.{length}
 use native.Mathlib.Omega.{arith}
 use borrow.Author.Needs.{needs}
@@ -27,12 +28,13 @@ member-lines-spec =
     (λ c κs. search needs)
     (λ c κs. c .before .before .before .before .before .before .before .before .before .before .before .pre .0)
     (λ c. members-refused (c .before .before .before .before .before .before .before .before .before .before .loop .inv) (c .before .before .before .before .before .before .before .tail-line .last .1 .1 .0) (c .before .before .before .before .before .before .before .before .before .from .ensures) (c .before .before .before .before .before .before .before .tail-line .ensures) (c .before .before .before .before .before .e .given .1) (c .before .before .member-from .ensures) (c .before .member-refusal .ensures) (c .if1 .taken))
-    (λ c κs. room (c .before .before .before .before .before .before .before .before .before .before .before .loop .inv) (c .before .before .before .before .before .before .before .before .tail-line .last .1 .1 .0) (c .before .before .before .before .before .before .before .before .before .before .from .ensures) (c .before .before .before .before .before .before .before .before .tail-line .ensures) (c .before .before .before .before .before .before .e .given .1))
-    (λ c. omega (arith, person-place (c .before .before .before .before .before .before .before .before .before .before .before .before .loop .inv) (c .before .before .before .before .before .before .before .before .before .tail-line .last .1 .1 .0) (c .before .before .before .before .before .before .before .before .before .before .before .from .ensures) (c .before .before .before .before .before .before .before .before .before .tail-line .ensures) (c .before .before .before .before .before .before .before .e .given .1)))
-    (λ c. omega (arith, person-place (c .before .before .before .before .before .before .before .before .before .before .before .before .loop .inv) (c .before .before .before .before .before .before .before .before .before .tail-line .last .1 .1 .0) (c .before .before .before .before .before .before .before .before .before .before .before .from .ensures) (c .before .before .before .before .before .before .before .before .before .tail-line .ensures) (c .before .before .before .before .before .before .before .e .given .1)))
-    (λ c. omega (arith, c .before .before .before .before .before .before .before .before .before .before .before .before .loop .inv .few))
-    (λ c. omega (arith, room (c .before .before .before .before .before .before .before .before .before .before .before .before .loop .inv) (c .before .before .before .before .before .before .before .before .before .tail-line .last .1 .1 .0) (c .before .before .before .before .before .before .before .before .before .before .before .from .ensures) (c .before .before .before .before .before .before .before .before .before .tail-line .ensures) (c .before .before .before .before .before .before .before .e .given .1)))
-    (λ c. members-next (c .before .before .before .before .before .before .before .before .before .before .before .before .loop .inv) (c .before .before .before .before .before .before .before .before .before .tail-line .last .1 .1 .0) (c .before .before .before .before .before .before .before .before .before .before .before .from .ensures) (c .before .before .before .before .before .before .before .before .before .tail-line .ensures) (c .before .before .before .before .before .before .before .e .given .1) (c .before .before .before .before .member-from .ensures) (c .before .before .before .member-refusal .ensures) (c .before .before .if1 .left) (c .store-member .ensures))
+    (λ c. search needs)
+    (λ c. room (c .before .before .before .before .before .before .before .before .before .before .loop .inv) (c .before .before .before .before .before .before .before .tail-line .last .1 .1 .0) (c .before .before .before .before .before .before .before .before .before .from .ensures) (c .before .before .before .before .before .before .before .tail-line .ensures) (c .before .before .before .before .before .e .given .1))
+    (λ c. omega (arith, person-place (c .before .before .before .before .before .before .before .before .before .before .loop .inv) (c .before .before .before .before .before .before .before .tail-line .last .1 .1 .0) (c .before .before .before .before .before .before .before .before .before .from .ensures) (c .before .before .before .before .before .before .before .tail-line .ensures) (c .before .before .before .before .before .e .given .1)))
+    (λ c. omega (arith, person-place (c .before .before .before .before .before .before .before .before .before .before .loop .inv) (c .before .before .before .before .before .before .before .tail-line .last .1 .1 .0) (c .before .before .before .before .before .before .before .before .before .from .ensures) (c .before .before .before .before .before .before .before .tail-line .ensures) (c .before .before .before .before .before .e .given .1)))
+    (λ c. omega (arith, c .before .before .before .before .before .before .before .before .before .before .loop .inv .few))
+    (λ c. omega (arith, room (c .before .before .before .before .before .before .before .before .before .before .loop .inv) (c .before .before .before .before .before .before .before .tail-line .last .1 .1 .0) (c .before .before .before .before .before .before .before .before .before .from .ensures) (c .before .before .before .before .before .before .before .tail-line .ensures) (c .before .before .before .before .before .e .given .1)))
+    (λ c. members-next (c .before .before .before .before .before .before .before .before .before .before .loop .inv) (c .before .before .before .before .before .before .before .tail-line .last .1 .1 .0) (c .before .before .before .before .before .before .before .before .before .from .ensures) (c .before .before .before .before .before .before .before .tail-line .ensures) (c .before .before .before .before .before .e .given .1) (c .before .before .member-from .ensures) (c .before .member-refusal .ensures) (c .if1 .left) refl)
     (λ c. search needs)
     (λ c. omega (arith, end-place (c .before .before .before .before .before .before .loop .inv) (c .before .before .before .tail-line .last .1 .1 .0) (c .before .before .before .before .before .from .ensures) (c .before .before .before .tail-line .ensures) (c .before .e2 .given .1)))
     (λ c. omega (arith, end-place (c .before .before .before .before .before .before .loop .inv) (c .before .before .before .tail-line .last .1 .1 .0) (c .before .before .before .before .before .from .ensures) (c .before .before .before .tail-line .ensures) (c .before .e2 .given .1)))
