@@ -15,9 +15,9 @@ use Rattle.casefile.specs.Answers.{reading, readingOf, accepting}
 use Rattle.costs.specs.declared.Figures.{Figures}
 use Rattle.costs.specs.declared.Valuation.{Valuation}
 use Rattle.costs.specs.declared.Valuation.the-variants.{Valued, Refused as ValuationRefused}
-use Rattle.valuation.specs.declared.Answer.{Answer}
-use Rattle.valuation.specs.declared.Answer.the-variants.{Written, Refused as AnswerRefused}
-use Rattle.valuation.specs.Answers.{answer}
+use Rattle.fitting.specs.declared.Answer.{Answer}
+use Rattle.fitting.specs.declared.Answer.the-variants.{Written, Refused as AnswerRefused}
+use Rattle.fitting.specs.Fitting.{answer}
 use Rattle.kuyeshan.specs.Answers.{numberOf, lineNumberOf, writtenOf}
 use Rattle.kuyeshan.specs.Values.{refusedBy, figuresAfter}
 

@@ -15,7 +15,8 @@ use Rattle.costs.specs.declared.Figures.{Figures}
 use Rattle.costs.specs.declared.Valuation.the-variants.{Valued, Refused}
 use Rattle.costs.specs.Valuation.{figures, valuation}
 use Rattle.report.specs.Lines.{printed}
-use Rattle.valuation.specs.Answers.{fitting, valuedOf}
+use Rattle.fitting.specs.Fitting.{fitting}
+use Rattle.valuation.specs.Answers.{valuedOf}
 use Rattle.kuyeshan.specs.Statements.{Numbered, ReadingNumbered, AcceptingNumbered, ValuingNumbered, FittingNumbered, MemberNumbered}
 
 form-above : {part : Section} {n : ℕ} → FormOf part n → 0 < n

@@ -10,7 +10,8 @@ use Rattle.walk.specs.Walk.{walkOf}
 use Rattle.casefile.specs.Answers.{acceptingOf}
 use Rattle.costs.specs.declared.Valuation.the-variants.{Refused}
 use Rattle.costs.specs.Valuation.{valuation}
-use Rattle.valuation.specs.Answers.{fitting, valuedOf}
+use Rattle.fitting.specs.Fitting.{fitting}
+use Rattle.valuation.specs.Answers.{valuedOf}
 
 -- a refusal has a number above 0
 abbrev pub Numbered : {A : Type 0} → Outcome A → Type 0

@@ -1,15 +1,15 @@
-// The library for programs in C and Rust: the entries of valuation, casefile and plain_engine, exported under C names. An export
+// The library for programs in C and Rust: the entries of valuation, fitting, casefile and plain_engine, exported under C names. An export
 // answers a refusal's number, 0 for none; a line or a count goes to a place that the caller lends. None has a
 // `requires`, and every place that is lent has its equation on every path. embed/kuyeshan.h declares them for C.
 use casefile::Accepting;
 use casefile::Reading;
 use costs::Valuation;
+use fitting::Answer;
 use plan::MOST_MEMBERS;
 use plan::Member;
 use rates::AGES;
 use rates::Rows;
 use rules::terms::plan_from;
-use valuation::Answer;
 ghost use mathlib.Core.Path.{_≡_};
 ghost use mathlib.Core.Bool.{false};
 ghost use lib.ListN.{length};
@@ -18,7 +18,8 @@ ghost use Rattle.walk.specs.Walk.{walkOf};
 ghost use Rattle.casefile.specs.Answers.{acceptingOf};
 ghost use Rattle.costs.specs.Valuation.{valuation};
 ghost use Rattle.report.specs.Lines.{refusalLine};
-ghost use Rattle.valuation.specs.Answers.{fitting, valuedOf, buffer};
+ghost use Rattle.fitting.specs.Fitting.{fitting, buffer};
+ghost use Rattle.valuation.specs.Answers.{valuedOf};
 ghost use Rattle.kuyeshan.specs.Answers.{numberOf, lineNumberOf, writtenOf};
 ghost use Rattle.walk.specs.Lines.{memberFrom};
 ghost use Rattle.kuyeshan.specs.Values.{refusedBy, figuresAfter};
@@ -100,7 +101,7 @@ pub extern "C" fn kuyeshan_refusal_line(
     ensures { λ _. ⌜ now (out .exit) ≡ buffer (fitting (length (now (out .entry))) (refusalLine number line)) (now (out .entry)) ⌝ }
     ensures { λ _. ⌜ now (written .exit) ≡ writtenOf (fitting (length (now (out .entry))) (refusalLine number line)) ⌝ }
 {
-    match valuation::refusal_line(number, line, out) {
+    match fitting::refusal_line(number, line, out) {
         Answer::Written(n) => {
             *written = n as u64;
             0

@@ -18,7 +18,8 @@ use Rattle.walk.proofs.Accepted.{accepted-keeps}
 use Rattle.casefile.specs.Answers.{acceptingOf}
 use Rattle.totals.specs.Totals.{total, unfunded, supplemental}
 use Rattle.report.specs.Lines.{memberLine, planLines, printed}
-use Rattle.valuation.specs.Answers.{fitting, valuedOf}
+use Rattle.fitting.specs.Fitting.{fitting}
+use Rattle.valuation.specs.Answers.{valuedOf}
 use Rattle.statements.specs.LinesOf.{linesPast, lineAt, linesBefore}
 use Rattle.statements.specs.Statements.{Every-Member, Members-Are-Lines, Plan-Lines, Independence, Totals-Are-Sums, Totals-Accuracy, supplemental*, Supplemental-Accuracy}
 use Rattle.statements.proofs.LineEnds.{member-is-line, member-text, members-done}

@@ -1,13 +1,13 @@
--- From what is printed to the answer and the buffer.
+-- From what accepting hands on to the answer, and from the two answers to what the program prints.
 use mathlib.Core.Path.{_≡_, refl, sym, _∙_, ap}
 use mathlib.Core.Bool.{Bool, true, false, cond}
 use mathlib.Core.List.{List}
-use Prim.Native.Nat.{ℕ, zero, suc, _+_, _^_, _≤_, _<_}
+use Prim.Native.Nat.{ℕ, zero, suc, _^_, _≤_, _<_}
 use native.Mathlib.Omega.{arith}
-use borrow.Author.Tests.{le-leb, lt-leb}
+use borrow.Author.Tests.{le-leb}
 use lib.Dec.{leb}
 use lib.ListN.{length, getD, take}
-use lib.Seq.{sets-eq, take-suc, take-length}
+use lib.Seq.{take-suc, take-length}
 use Rattle.plan.specs.declared.Plan.{Plan}
 use Rattle.plan.specs.declared.Member.{Member}
 use Rattle.acceptance.proofs.Facts.{member-facts}
@@ -21,23 +21,11 @@ use Rattle.casefile.specs.Answers.{acceptingOf, accepting}
 use Rattle.casefile.specs.Stored.{idBeforeAt, rowsAfter, membersAfter, AcceptedArrays}
 use Rattle.casefile.proofs.Arrays.{accepted-case}
 use Rattle.totals.specs.Worked.{membersIn, AcceptedMembers}
-use Rattle.printing.specs.Puts.{Puts}
 use Rattle.report.specs.Lines.{printed, refusalLine}
 use Rattle.report.proofs.PrintedLaws.{refusal-line-most}
-use Rattle.valuation.specs.declared.Answer.the-variants.{Written, Refused}
-use Rattle.valuation.specs.Answers.{fitting, valuedOf, answer, buffer, orRefusal, programOf, Writes}
-
--- ---- the answer and the buffer: the lines are measured in a buffer `none`, and written where they fit
-pub too-long : (old : List ℕ) {lines none after : List ℕ} {needed : ℕ} → Puts none 0 lines after needed → length old < needed → (Refused 30 0 ≡ answer (fitting (length old) lines)) × (old ≡ buffer (fitting (length old) lines) old)
-unfolding fitting
-too-long old {lines} m h = rw (lt-leb (length lines) (length old) (omega (arith, m .ends))) (refl, refl)
-
-pub written : {old out lines none after : List ℕ} {needed end : ℕ} → Puts none 0 lines after needed → needed ≤ length old → Puts old 0 lines out end → (Written end ≡ answer (fitting (length old) lines)) × (out ≡ buffer (fitting (length old) lines) old)
-unfolding fitting
-written {old} {lines = lines} m h w =
-    let none : 0 + length lines ≡ length lines = omega arith in
-    let at-start = rw none at (sets-eq lines old 0 (omega (arith, m .ends))) in
-    rw (le-leb (length lines) (length old) (omega (arith, m .ends))) (ap Written (w .ends ∙ none), w .holds ∙ at-start)
+use Rattle.fitting.specs.declared.Answer.the-variants.{Written, Refused}
+use Rattle.fitting.specs.Fitting.{fitting, answer, buffer}
+use Rattle.valuation.specs.Answers.{valuedOf, orRefusal, programOf, Writes}
 
 -- ---- what accepting hands on
 in-array : (a : List (List ℕ)) (l : List Member) → ((j : ℕ) → j < length l → memberAt a j ≡ getD l j nobody) → (n : ℕ) → n ≤ length l → membersIn a n ≡ take n l

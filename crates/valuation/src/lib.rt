@@ -1,6 +1,6 @@
-// The valuation of a whole plan, as text: RULES sections 12 and 13. The lines are the crate report's, the figures and
-// their totals the crate totals'; here is what fits the buffer, and what is answered. The entries are value_case,
-// refusal_line and print_case, and those of the layers below, which are passed on: read_case, accept_case, accept_plan,
+// The valuation of a whole plan, as text: RULES sections 12 and 13. The figures and their totals are the crate totals', the
+// lines the crate report's, and that they are written where they fit is the crate fitting's. The entries are value_case
+// and print_case, and those of the layers below, which are passed on: refusal_line, read_case, accept_case, accept_plan,
 // accept_member, value_member. None has a `requires`.
 pub use acceptance::Acceptance;
 pub use acceptance::accept_member;
@@ -11,43 +11,35 @@ pub use casefile::accept_case;
 pub use casefile::read_case;
 pub use costs::Figures;
 pub use costs::Valuation;
+pub use fitting::Answer;
+use fitting::fit_lines;
+pub use fitting::refusal_line;
 pub use plain_engine::value_member;
 pub use plan::Member;
+use plan::MOST_MEMBERS;
 use plan::Members;
 pub use plan::Plan;
+use rates::AGES;
 use rates::Rows;
-use report::write_lines;
-use report::write_refusal;
-use rounding::Signed;
-use totals::Totals;
-use totals::Worked;
 use totals::supplemental_of;
 use totals::unfunded_of;
 use totals::work;
 ghost use mathlib.Core.Path.{_≡_};
-ghost use mathlib.Core.List.{_++_};
 ghost use Prim.Native.Nat.{_≤_};
 ghost use lib.ListN.{length};
 ghost use Rattle.walk.specs.Outcome.{refusal};
-ghost use Rattle.rounding.specs.Signed.{integerOf};
-ghost use Rattle.report.specs.Lines.{planLines, printed, refusalLine};
-ghost use Rattle.report.specs.Worked.{linesIn};
-ghost use Rattle.valuation.specs.Answers.{fitting, valuedOf, answer, buffer, orRefusal, programOf, Writes};
+ghost use Rattle.report.specs.Lines.{printed};
+ghost use Rattle.fitting.specs.Fitting.{fitting, answer, buffer};
+ghost use Rattle.valuation.specs.Answers.{valuedOf, orRefusal, programOf, Writes};
 ghost use Rattle.totals.specs.Worked.{AcceptedMembers, membersIn};
-
-// The answer of an entry that writes: how many bytes, or a refusal's number and line.
-pub enum Answer {
-    Written(usize),
-    Refused(u64, u64),
-}
 
 // Values a case file: the lines of its members and of the plan, at the start of `out`, or a refusal.
 pub fn value_case(case: &[u8], out: &mut [u8]) -> Answer
     ensures { λ r. ⌜ r ≡ answer (valuedOf (length (now (out .entry))) (now (case .entry))) ⌝ }
     ensures { λ _. ⌜ now (out .exit) ≡ buffer (valuedOf (length (now (out .entry))) (now (case .entry))) (now (out .entry)) ⌝ }
 {
-    let mut rows = [[0u32; 4]; 106];
-    let mut members = [[0u64; 4]; 1000];
+    let mut rows = [[0u32; 4]; AGES];
+    let mut members = [[0u64; 4]; MOST_MEMBERS];
     match accept_case(case, &mut rows, &mut members) {
         Accepting::Accepted(p, count) => value_accepted(p, rows, &members, count, out),
         Accepting::Refused(number, line) => Answer::Refused(number, line),
@@ -60,55 +52,11 @@ fn value_accepted(p: Plan, rows: Rows, members: &Members, count: u64, out: &mut 
     ensures { λ r. ⌜ r ≡ answer (fitting (length (now (out .entry))) (printed p rows (membersIn (now (members .entry)) count))) ⌝ }
     ensures { λ _. ⌜ now (out .exit) ≡ buffer (fitting (length (now (out .entry))) (printed p rows (membersIn (now (members .entry)) count))) (now (out .entry)) ⌝ }
 {
-    let mut worked = [[0u64; 4]; 1000];
+    let mut worked = [[0u64; 4]; MOST_MEMBERS];
     let totals = work(p, rows, members, count as usize, &mut worked);
     let unfunded = unfunded_of(totals.liability, p.assets);
     let supplemental = supplemental_of(unfunded, p.interest, p.years);
     fit_lines(out, members, &worked, count, totals, unfunded, supplemental)
-}
-
-// Writes all lines of an accepted case where they fit.
-fn fit_lines(
-    out: &mut [u8],
-    members: &Members,
-    worked: &Worked,
-    count: u64,
-    t: Totals,
-    unfunded: Signed,
-    supplemental: Signed,
-) -> Answer
-    requires { ⌜ count ≤ 1000 ⌝ }
-    ensures { λ r. ⌜ r ≡ answer (fitting (length (now (out .entry))) (linesIn (now (members .entry)) (now (worked .entry)) count ++ planLines count t (integerOf unfunded) (integerOf supplemental))) ⌝ }
-    ensures { λ _. ⌜ now (out .exit) ≡ buffer (fitting (length (now (out .entry))) (linesIn (now (members .entry)) (now (worked .entry)) count ++ planLines count t (integerOf unfunded) (integerOf supplemental))) (now (out .entry)) ⌝ }
-{
-    let mut nowhere = [0u8; 0];
-    let needed = write_lines(
-        &mut nowhere,
-        members,
-        worked,
-        count,
-        t,
-        unfunded,
-        supplemental,
-    );
-    if out.len() < needed {
-        return Answer::Refused(30, 0);
-    }
-    let end = write_lines(out, members, worked, count, t, unfunded, supplemental);
-    Answer::Written(end)
-}
-
-// Rule 13.3: writes the one line of a refusal at the start of `out`.
-pub fn refusal_line(number: u64, line: u64, out: &mut [u8]) -> Answer
-    ensures { λ r. ⌜ r ≡ answer (fitting (length (now (out .entry))) (refusalLine number line)) ⌝ }
-    ensures { λ _. ⌜ now (out .exit) ≡ buffer (fitting (length (now (out .entry))) (refusalLine number line)) (now (out .entry)) ⌝ }
-{
-    let mut nowhere = [0u8; 0];
-    if out.len() < write_refusal(&mut nowhere, number, line) {
-        return Answer::Refused(30, 0);
-    }
-    let end = write_refusal(out, number, line);
-    Answer::Written(end)
 }
 
 // Rule 13.1, what the program prints of a case file, at the start of `out`: its lines, or the one line of its refusal.

@@ -2,15 +2,16 @@
 // thin main over the library: the bytes that it prints are those of `valuation::print_case`. A read that fails prints
 // nothing there, and a read or a write that fails is told on standard error: a program in Rattle has no exit status, so
 // bin/value looks whether what was printed is whole.
+use fitting::Answer;
 use libc::STDERR_FILENO;
 use libc::STDIN_FILENO;
 use libc::STDOUT_FILENO;
-use valuation::Answer;
 use valuation::print_case;
 ghost use mathlib.Core.Path.{_≡_};
 ghost use lib.ListN.{length};
-ghost use Rattle.valuation.specs.declared.Answer.the-variants.{Written};
-ghost use Rattle.valuation.specs.Answers.{answer, buffer, programOf};
+ghost use Rattle.fitting.specs.declared.Answer.the-variants.{Written};
+ghost use Rattle.fitting.specs.Fitting.{answer, buffer};
+ghost use Rattle.valuation.specs.Answers.{programOf};
 
 fn main() {
     // One byte more than a case file may have: an input that is too long fills it, and is refused and never cut.

@@ -1,7 +1,7 @@
 -- `valuation::print_case` meets its contract.
 use borrow.Author.Needs.{needs}
 use mathlib.Core.Path.{refl, sym, _∙_, ap}
-use Rattle.valuation.specs.Answers.{answer, buffer}
+use Rattle.fitting.specs.Fitting.{answer, buffer}
 use Rattle.valuation.proofs.AnswerLaws.{program-lines, program-refusal}
 use Rattle.valuation.proofs.print_case.Statement.{statement}
 use Rattle.valuation.proofs.print_case.Tie as tie

@@ -5,7 +5,7 @@ use lib.ListN.{length, replicate}
 use Prim.Native.Nat.{ℕ}
 use mathlib.Core.List.{List}
 use Rattle.casefile.proofs.Arrays.{accepted-arrays}
-use Rattle.valuation.specs.Answers.{answer, buffer}
+use Rattle.fitting.specs.Fitting.{answer, buffer}
 use Rattle.valuation.proofs.AnswerLaws.{accepted-members, valued-accepted, valued-refused}
 use Rattle.valuation.proofs.value_case.Statement.{statement}
 use Rattle.valuation.proofs.value_case.Tie as tie

@@ -1,9 +1,9 @@
--- `valuation::fit_lines` meets its contract.
+-- `fitting::fit_lines` meets its contract.
 use borrow.Author.Needs.{needs}
 use native.Mathlib.Omega.{arith}
-use Rattle.valuation.proofs.AnswerLaws.{too-long, written}
-use Rattle.valuation.proofs.fit_lines.Statement.{statement}
-use Rattle.valuation.proofs.fit_lines.Tie as tie
+use Rattle.fitting.proofs.FittingLaws.{too-long, written}
+use Rattle.fitting.proofs.fit_lines.Statement.{statement}
+use Rattle.fitting.proofs.fit_lines.Tie as tie
 
 returns : tie.Need-returns
 returns c = too-long (c .before .before .before .before .before .args .out .now) (c .before .before .write-lines .ensures) (omega (arith, c .if1 .taken))

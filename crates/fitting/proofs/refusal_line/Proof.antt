@@ -1,9 +1,9 @@
--- `valuation::refusal_line` meets its contract.
+-- `fitting::refusal_line` meets its contract.
 use borrow.Author.Needs.{needs}
 use native.Mathlib.Omega.{arith}
-use Rattle.valuation.proofs.AnswerLaws.{too-long, written}
-use Rattle.valuation.proofs.refusal_line.Statement.{statement}
-use Rattle.valuation.proofs.refusal_line.Tie as tie
+use Rattle.fitting.proofs.FittingLaws.{too-long, written}
+use Rattle.fitting.proofs.refusal_line.Statement.{statement}
+use Rattle.fitting.proofs.refusal_line.Tie as tie
 
 returns : tie.Need-returns
 returns c = too-long (c .before .before .before .before .before .args .out .now) (c .before .before .write-refusal .ensures) (omega (arith, c .if1 .taken))
