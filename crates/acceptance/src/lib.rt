@@ -2,11 +2,11 @@
 // of the heading and of the table, which crate `rules` has, then those of a member, RULES section 4 and rule 7.8. A refusal is
 // its number, and 0 is none. specs/ has what every contract is an equation with, the order of the rules, in Acceptance; and in
 // Rising the law of rule 7.9 for a plan that is accepted.
-use rates::FIRST_AGE;
-use rates::Rows;
 use plan::Member;
 use plan::Plan;
 use plan::benefit::accrued_benefit;
+use rates::FIRST_AGE;
+use rates::Rows;
 use rules::between;
 use rules::both;
 use rules::or_else;
