@@ -108,9 +108,9 @@ module _ (p : Plan) (rows : List (List ℕ)) (before : ℕ) (m : Member) where
   unfolding memberRefusal
   fields-kept h = refusal-of-both (fieldRules p before m) (benefitRules p rows m) ∙ simp (eq-eqb (firstOf (fieldRules p before m)) 0 h)
 
-pub placed-facts : (p : Plan) (before : ℕ) (m : Member) → firstOf (fieldRules p before m) ≡ 0 → InRange p m
+pub range-facts : (p : Plan) (before : ℕ) (m : Member) → firstOf (fieldRules p before m) ≡ 0 → InRange p m
 unfolding fieldRules
-placed-facts p before m e =
+range-facts p before m e =
     let k = all-kept (fieldRules p before m) e in
     let entry = both-true (leb 15 (m .entry)) (ltb (m .entry) (p .retire)) (kept (leb 15 (m .entry) && ltb (m .entry) (p .retire)) 21 (k .1 .0)) in
     let age = between-true (m .entry) (p .retire) (m .age) (kept (between (m .entry) (p .retire) (m .age)) 22 (k .1 .1 .0)) in
@@ -129,7 +129,7 @@ member-facts p rows before m plan e =
     let k = all-kept (benefitRules p rows m) (halves .1) in
     record {
       plan = plan-facts p rows plan;
-      placed = placed-facts p before m (halves .0);
+      in-range = range-facts p before m (halves .0);
       capped = leb-true _ _ (kept (leb (B p rows m (p .retire)) 100000000) 24 (k .0));
     }
 

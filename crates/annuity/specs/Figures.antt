@@ -5,7 +5,7 @@ use mathlib.Core.List.{List, [], _∷_, _++_}
 use Prim.Native.Nat.{ℕ}
 use lib.ListN.{replicate}
 use Rattle.rounding.specs.Nearest.{nearest}
-use Rattle.rates.specs.Worked.{Figure, _is_, all-are}
+use Rattle.rates.specs.ByHand.{Figure, _is_, all-are}
 use Rattle.annuity.specs.Recursion.{carried}
 use Rattle.rates.specs.Rates.{able, serves, leaves, stays, crowded, rates}
 use Rattle.rates.specs.Table.{staying}

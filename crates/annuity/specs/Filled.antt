@@ -3,7 +3,7 @@ use mathlib.Core.Path.{_≡_}
 use mathlib.Core.List.{List}
 use Prim.Native.Nat.{ℕ, _+_, _-_, _*_, _≤_, _<_}
 use lib.ListN.{length, getD}
-use Rattle.rates.specs.Table.{ages}
+use Rattle.rates.specs.Table.{firstAge, ages}
 use Rattle.annuity.specs.declared.Amount.{Amount}
 use Rattle.annuity.specs.declared.Amount.the-variants.{Nothing, One, Weight}
 use Rattle.annuity.specs.Recursion.{carried}
@@ -13,8 +13,8 @@ use Rattle.annuity.specs.Factors.{S, step}
 -- the place of each age from `low` on holds its factor F(k), up to the age `top`; above that it holds 0
 pub record Filled (F : ℕ → ℕ) (top low : ℕ) (a : List ℕ) : Type 0 where
   pub size : length a ≡ ages
-  pub upto : (k : ℕ) → low ≤ k → k ≤ top → getD a (k - 15) 0 ≡ F k
-  pub above : (k : ℕ) → top < k → k ≤ 120 → getD a (k - 15) 0 ≡ 0
+  pub upto : (k : ℕ) → low ≤ k → k ≤ top → getD a (k - firstAge) 0 ≡ F k
+  pub above : (k : ℕ) → top < k → k ≤ 120 → getD a (k - firstAge) 0 ≡ 0
 
 -- what is paid each year (rules 8.4 to 8.7): nothing for G, S for A and T, W(k) × S for Z
 unfoldable pub paidOf : (weight : ℕ) → Amount → ℕ

@@ -4,13 +4,14 @@
 // functions, and one fill, downward from the last age, serves A, G, T and Z. An array has a place for each of the 106
 // ages; age k stands at place k - 15. Each `requires` is what an accepted plan shows.
 use rates::AGES;
+use rates::FIRST_AGE;
 use rates::Rows;
 ghost use mathlib.Core.Path.{_≡_};
-ghost use Prim.Native.Nat.{_+_, _-_, _*_, _≤_, _<_};
+ghost use Prim.Native.Nat.{_+_, _*_, _≤_};
 ghost use lib.ListN.{getD};
 ghost use Rattle.rounding.specs.Nearest.{nearest};
 ghost use Rattle.rates.specs.Rates.{stays};
-ghost use Rattle.rates.specs.Table.{Sound, Table};
+ghost use Rattle.rates.specs.Table.{Sound, Table, ages};
 ghost use Rattle.annuity.specs.Basis.{basis};
 ghost use Rattle.annuity.specs.Factors.{A as Factors·A, pension as Factors·pension, G, T, Z, C};
 ghost use Rattle.annuity.specs.Factors.{S as Factors·S};
@@ -50,17 +51,17 @@ fn amount_of(row: [u32; 4], amount: Amount) -> u64
 
 // Rule 8.9: the factor of each age up to `top`, filled downward from `start` there.
 fn fill(rows: Rows, r: usize, i: u64, amount: Amount, top: usize, start: u64) -> Factors
-    requires { ⌜ Table rows × (i ≤ 2000) × (15 ≤ top) × (top ≤ 120) × (start ≤ 106 * Factors·S) ⌝ }
+    requires { ⌜ Table rows × (i ≤ 2000) × (15 ≤ top) × (top ≤ 120) × (start ≤ ages * Factors·S) ⌝ }
     ensures { λ a. ⌜ Filled (factor (basis rows r i) amount top start) top 15 a ⌝ }
 {
     let mut a = [0u64; AGES];
-    let mut j: usize = top - 15;
+    let mut j: usize = top - FIRST_AGE;
     a[j] = start;
     while 0 < j {
         let f = a[j];
         j -= 1;
         let row = rows[j];
-        a[j] = amount_of(row, amount) + step(row, r, i, j + 15, f);
+        a[j] = amount_of(row, amount) + step(row, r, i, j + FIRST_AGE, f);
     }
     a
 }
@@ -79,7 +80,7 @@ fn pension(rows: Rows, r: usize, i: u64) -> u64
     ensures { λ p. ⌜ p ≡ Factors·pension (basis rows r i) ⌝ }
 {
     let life = life_annuity(rows, r, i);
-    life[r - 15]
+    life[r - FIRST_AGE]
 }
 
 // Rule 8.5: G(k) for each age up to r.

@@ -25,7 +25,7 @@ pub extern "C" fn bench_annuity_life_annuity(
 ) -> bool
     ensures { λ t. ⌜ (t ≡ true → Filled (Factors·A (basis (rowsOf (now (numbers .entry))) r i)) 120 15 (now (out .exit))) ⌝ }
 {
-    if numbers.len() != 424 || out.len() != 106 || i > 2000 {
+    if numbers.len() != 424 || out.len() != AGES || i > 2000 {
         return false;
     }
     let rows = rows_of(numbers);
@@ -47,7 +47,7 @@ pub extern "C" fn bench_annuity_pay_annuity(
 ) -> bool
     ensures { λ t. ⌜ (t ≡ true → Filled (λ k. Z (basis (rowsOf (now (numbers .entry))) r i) k e) e 15 (now (out .exit))) ⌝ }
 {
-    if numbers.len() != 424 || out.len() != 106 || i > 2000 || e < 15 || e > 120 {
+    if numbers.len() != 424 || out.len() != AGES || i > 2000 || e < 15 || e > 120 {
         return false;
     }
     let rows = rows_of(numbers);

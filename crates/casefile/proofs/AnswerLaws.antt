@@ -10,7 +10,7 @@ use Rattle.casefile.specs.declared.Walked.the-variants.{Whole, Refused}
 use Rattle.casefile.specs.declared.Reading.the-variants.{Read, Refused as ReadingRefused}
 use Rattle.casefile.specs.declared.Accepting.{Accepting}
 use Rattle.casefile.specs.declared.Accepting.the-variants.{Accepted, Refused as AcceptingRefused}
-use Rattle.casefile.specs.Answers.{reading, readingOf, acceptingOf, accepting}
+use Rattle.casefile.specs.Answers.{readingOf, acceptingOf, accepting}
 use Rattle.casefile.specs.Stored.{rowsAfter, membersAfter}
 use Rattle.casefile.specs.Stretch.{WalkIs}
 

@@ -1,4 +1,4 @@
--- The answer of `value_member`: what it is, and that its N and L keep the limits; and demand 3 of every accepted member.
+-- The answer for a lone member, `plain_engine::value_member`: what it is, and that its N and L keep the limits; and demand 3 of every accepted member.
 use mathlib.Core.Path.{_≡_, sym, subst, _∙_}
 use mathlib.Core.List.{List}
 use Prim.Native.Nat.{ℕ}
@@ -27,7 +27,7 @@ module _ (p : Plan) (rows : List (List ℕ)) (m : Member) where
   own-figures : AcceptedMember p rows m → Limited p rows m (Valued (figures p rows m))
   unfolding figures figuresAt
   own-figures accepted =
-      limits (settingOf p rows m) (sound p rows m accepted) (methodOf (p .method)) (m .age) (accepted .placed .past-entry) (accepted .placed .not-past)
+      limits (settingOf p rows m) (sound p rows m accepted) (methodOf (p .method)) (m .age) (accepted .in-range .past-entry) (accepted .in-range .not-past)
 
   pub limited : {f : Figures} → AcceptedMember p rows m → f ≡ figures p rows m → Limited p rows m (Valued f)
   limited accepted e = subst (λ (f : Figures). Limited p rows m (Valued f)) (sym e) (own-figures accepted)

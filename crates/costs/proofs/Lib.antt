@@ -1,4 +1,4 @@
--- Demand 3, roll-forward and the equal forms of the liability (RollForward, EqualForms), and the limits (Quotients, Limits).
+-- Demand 3, roll-forward and the equal forms of the liability (RollForward, EqualForms), and the limits (Quotients, Limits); what an accepted member shows (Needs), and the answer for plain values (Answers).
 pub mod RollForward
 pub mod EqualForms
 pub mod Quotients

@@ -1,4 +1,4 @@
--- What is known of an accepted member: its case is sound, its ages lie in the table, and its factors have their sizes.
+-- What is known of an accepted member: its setting is sound, its ages lie in the table, and its factors have their sizes.
 use mathlib.Core.List.{List}
 use Prim.Native.Nat.{ℕ, _-_, _*_, _≤_}
 use native.Mathlib.Nat.{mul-le-mul, mul-le-mul-right}
@@ -31,17 +31,17 @@ module _ (p : Plan) (rows : List (List ℕ)) (m : Member) (accepted : AcceptedMe
         fair = basis-fair rows (p .retire) (p .interest);
         retires = facts .head .retire .0;
         in-time = facts .head .retire .1;
-        grown = accepted .placed .grown;
-        enters = accepted .placed .enters;
-        weighty = λ k from to. facts .least k (omega (arith, accepted .placed .grown)) (omega (arith, facts .head .retire .1));
-        climbs = λ k from to. facts .climbs k (omega (arith, accepted .placed .grown)) (omega (arith, facts .head .retire .1));
+        grown = accepted .in-range .grown;
+        enters = accepted .in-range .enters;
+        weighty = λ k from to. facts .least k (omega (arith, accepted .in-range .grown)) (omega (arith, facts .head .retire .1));
+        climbs = λ k from to. facts .climbs k (omega (arith, accepted .in-range .grown)) (omega (arith, facts .head .retire .1));
         capped = accepted .capped;
-        rises = never-falls p rows m (facts .head) (climbing facts) (accepted .placed);
+        rises = never-falls p rows m (facts .head) (climbing facts) (accepted .in-range);
       }
 
   -- an age of its own lies in the table
   pub in-table : (k : ℕ) → m .entry ≤ k → k ≤ p .retire → (15 ≤ k) × (k ≤ 120)
-  in-table k from to = (omega (arith, accepted .placed .grown), omega (arith, facts .head .retire .1))
+  in-table k from to = (omega (arith, accepted .in-range .grown), omega (arith, facts .head .retire .1))
 
   -- what the factors up to it ask for
   pub workable : (k : ℕ) → m .entry ≤ k → k ≤ p .retire → Table rows × (p .interest ≤ 2000) × (15 ≤ k) × (k ≤ 120)
@@ -54,4 +54,4 @@ module _ (p : Plan) (rows : List (List ℕ)) (m : Member) (accepted : AcceptedMe
   -- the pay annuity from entry pays 1000 at least
   pub pay-least : 1000 * S ≤ Z (planBasis p rows) (m .entry) (p .retire)
   pay-least =
-      omega (arith, Z-least (planBasis p rows) (m .entry) (p .retire) (accepted .placed .enters), mul-le-mul-right S (facts .least (m .entry) (accepted .placed .grown) (omega (arith, accepted .placed .enters, facts .head .retire .1))))
+      omega (arith, Z-least (planBasis p rows) (m .entry) (p .retire) (accepted .in-range .enters), mul-le-mul-right S (facts .least (m .entry) (accepted .in-range .grown) (omega (arith, accepted .in-range .enters, facts .head .retire .1))))

@@ -1,4 +1,4 @@
--- Demand 3, both parts (rules 10.8 and 10.9), for every sound case, each of the five methods and each age k from y through r; and roll-forward, at the ages below r.
+-- Demand 3, both parts (rules 10.8 and 10.9), for every sound setting of a member, each of the five methods and each age k from y through r; and roll-forward, at the ages below r.
 use Prim.Native.Nat.{ℕ, _+_, _*_, _≤_, _<_}
 use Rattle.fractions.specs.Ratio.{Ratio, _over_, whole, _⊕_, _⊗_, _≈_}
 use Rattle.fractions.specs.Fraction.{fraction, _⊖_, _≐_}
@@ -9,7 +9,7 @@ use Rattle.plan.specs.declared.Method.the-variants.{AB, BD, BP, CD, CP}
 use Rattle.costs.specs.Setting.{Setting, SoundSetting}
 use Rattle.costs.specs.Costs.{r, W, PV, PV*, N, N*, L, L*, future}
 
--- rule 10.4: what holds of every sound case, each method and each age k from y through r
+-- rule 10.4: what holds of every sound setting, each method and each age k from y through r
 abbrev pub Of-Every-Sound : (Setting → Method → ℕ → Type 0) → Type 0
 Of-Every-Sound P = (c : Setting) → SoundSetting c → (m : Method) (k : ℕ) → c .y ≤ k → k ≤ r c → P c m k
 

@@ -5,7 +5,7 @@ use mathlib.Core.List.{List, [], _∷_, _++_}
 use Prim.Native.Nat.{ℕ, _*_}
 use Rattle.rounding.specs.Nearest.{nearest}
 use Rattle.fractions.specs.Ratio.{Ratio, _over_, whole, _⊕_, _⊗_, inverse}
-use Rattle.rates.specs.Worked.{Figure, _is_, all-are}
+use Rattle.rates.specs.ByHand.{Figure, _is_, all-are}
 use Rattle.annuity.specs.Recursion.{carried}
 use Rattle.rates.specs.Rates.{able, serves, leaves, stays, crowded, rates}
 use Rattle.rates.specs.Table.{staying}
@@ -32,8 +32,8 @@ short-plan =
 abbrev pub short-member : Member
 short-member = record { id = 7; entry = 63; age = 64; salary = 0 }
 
-abbrev pub short-case : Setting
-short-case = settingOf short-plan short short-member
+abbrev pub short-setting : Setting
+short-setting = settingOf short-plan short short-member
 
 -- rules 14.6 and 14.7, a benefit from pay, by a formula and an average
 abbrev pay-plan : ℕ → ℕ → Plan
@@ -58,24 +58,24 @@ unfoldable pub figures : List Figure
 figures =
     factors
     ++ (planRefusal short-plan (shortWith crowded) is 0)
-    ∷ (N short-case AB 64 is 9091)
-    ∷ (L short-case AB 64 is 9091)
-    ∷ (N short-case BD 64 is 9091)
-    ∷ (L short-case BD 64 is 9091)
-    ∷ (N short-case BP 64 is 9524)
-    ∷ (L short-case BP 64 is 8658)
-    ∷ (N short-case CD 64 is 8658)
-    ∷ (L short-case CD 64 is 9524)
-    ∷ (N short-case CP 64 is 9091)
-    ∷ (L short-case CP 64 is 9091)
-    ∷ (N short-case CP 63 is 8264)
-    ∷ (10 * (PV short-case 63 * W short-case 63 * S) is 82645 * Z (short-case .basis) 63 65)
-    ∷ (PV short-case 63 is 16529)
-    ∷ (L short-case AB 63 is 0)
-    ∷ (L short-case BD 63 is 0)
-    ∷ (L short-case BP 63 is 0)
-    ∷ (L short-case CD 63 is 0)
-    ∷ (L short-case CP 63 is 0)
+    ∷ (N short-setting AB 64 is 9091)
+    ∷ (L short-setting AB 64 is 9091)
+    ∷ (N short-setting BD 64 is 9091)
+    ∷ (L short-setting BD 64 is 9091)
+    ∷ (N short-setting BP 64 is 9524)
+    ∷ (L short-setting BP 64 is 8658)
+    ∷ (N short-setting CD 64 is 8658)
+    ∷ (L short-setting CD 64 is 9524)
+    ∷ (N short-setting CP 64 is 9091)
+    ∷ (L short-setting CP 64 is 9091)
+    ∷ (N short-setting CP 63 is 8264)
+    ∷ (10 * (PV short-setting 63 * W short-setting 63 * S) is 82645 * Z (short-setting .basis) 63 65)
+    ∷ (PV short-setting 63 is 16529)
+    ∷ (L short-setting AB 63 is 0)
+    ∷ (L short-setting BD 63 is 0)
+    ∷ (L short-setting BP 63 is 0)
+    ∷ (L short-setting CD 63 is 0)
+    ∷ (L short-setting CP 63 is 0)
     ∷ (benefit 2 0 65 is 38182)
     ∷ (benefit 3 2 64 is 18182)
     ∷ (benefit 3 2 65 is 38182)

@@ -1,4 +1,4 @@
--- The figures of a plan and a member handed in as plain values, and the answer of `value_member`.
+-- The figures of a plan and a member handed in as plain values, and the answer for a lone member (`plain_engine::value_member`).
 use mathlib.Core.Path.{_≡_}
 use mathlib.Core.Bool.{cond}
 use mathlib.Core.List.{List}
@@ -58,7 +58,7 @@ pub record Accepted (p : Plan) (rows : List (List ℕ)) (before : ℕ) (m : Memb
   pub plan : planRefusal p rows ≡ 0
   pub member : memberRefusal p rows before m ≡ 0
 
--- what holds of a case, a method and an age, holds of every accepted member
+-- what holds of a setting, a method and an age, holds of every accepted member
 abbrev pub Of-Every-Accepted : (Setting → Method → ℕ → Type 0) → Type 0
 Of-Every-Accepted P =
     (p : Plan) (rows : List (List ℕ)) (before : ℕ) (m : Member) → Accepted p rows before m

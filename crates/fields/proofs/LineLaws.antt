@@ -1,5 +1,5 @@
 -- The fields of a line: what stands before a byte b of the line stands there in the bytes too.
-use Prim.Native.Nat.{ℕ, _+_, _-_, _≤_, _<_}
+use Prim.Native.Nat.{ℕ, _+_, _≤_, _<_}
 use mathlib.Core.Path.{_≡_, refl, sym, ap, _∙_}
 use mathlib.Core.List.{List, [], _∷_, _++_, append-assoc, append-nil}
 use mathlib.Core.Bool.{Bool, true, false, cond, not, _&&_}
@@ -12,7 +12,7 @@ use Rattle.fields.specs.declared.numbers.Field.{Field}
 use Rattle.fields.specs.declared.numbers.Field.the-variants.{Is, NotField}
 use Rattle.fields.specs.Split.{seekOf, hasOf, uptoOf, pastOf}
 use Rattle.fields.specs.Numbers.{Number, value, malformed, allDigits, number, digitsOf, wholeForm, wholeOf}
-use Rattle.fields.specs.Values.{before, placed, fieldOf}
+use Rattle.fields.specs.Values.{placed, fieldOf}
 use Rattle.fields.proofs.SplitLaws.{off, and-true-left, and-true-right, lacks, lacks-both, lacks-has, after, here, cut}
 use Rattle.fields.proofs.FieldLaws.{lacks-digits, digits-small}
 

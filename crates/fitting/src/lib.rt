@@ -1,5 +1,6 @@
 // What fits: the lines of a report, or the line of a refusal, are written whole at the start of the buffer, or the answer
-// is refusal 30 and the buffer as it was. Each is measured before it is written.
+// is refusal 30 and the buffer as it was. Each is measured before it is written. `refusal_line` is an entry and has no `requires`;
+// `fit_lines` asks what accepted members show.
 use plan::Members;
 use report::write_lines;
 use report::write_refusal;

@@ -19,7 +19,7 @@ use Rattle.fitting.specs.Fitting.{fitting}
 use Rattle.valuation.specs.Answers.{valuedOf}
 use Rattle.kuyeshan.specs.Statements.{Numbered, ReadingNumbered, AcceptingNumbered, ValuingNumbered, FittingNumbered, MemberNumbered}
 
-form-above : {part : Section} {n : ℕ} → FormOf part n → 0 < n
+form-above : {section : Section} {n : ℕ} → FormOf section n → 0 < n
 form-above term-cut = omega arith
 form-above term-form = omega arith
 form-above row-cut = omega arith
@@ -30,7 +30,7 @@ form-above tail-form = omega arith
 form-above surplus = omega arith
 form-above after-end = omega arith
 
-range-above : {part : Section} {n : ℕ} → RangeOf part n → 0 < n
+range-above : {section : Section} {n : ℕ} → RangeOf section n → 0 < n
 range-above of-a-term = omega arith
 range-above of-average = omega arith
 range-above of-a-rate = omega arith
@@ -44,8 +44,8 @@ range-above of-benefit = omega arith
 
 placed-above : {n l : ℕ} → Placed n l → 0 < n
 placed-above no-line = omega arith
-placed-above (of-form part f at) = form-above f
-placed-above (of-range part r at) = range-above r
+placed-above (of-form section f at) = form-above f
+placed-above (of-range section r at) = range-above r
 
 -- ---- the case file
 pub reading-numbered : ReadingNumbered

@@ -14,7 +14,7 @@ use Rattle.plan.specs.declared.Plan.{Plan}
 use Rattle.plan.specs.declared.Member.{Member}
 use Rattle.acceptance.specs.Acceptance.{memberRefusal}
 use Rattle.walk.specs.Outcome.{values as held-values, refusal, settled}
-use Rattle.walk.specs.Lines.{Tail, end, mostMembers, memberFrom, tailOf}
+use Rattle.walk.specs.Lines.{Tail, mostMembers, memberFrom, tailOf}
 use Rattle.walk.specs.Step.{Head, people, ended, wrong, right, lastId, personRefusal, tailLine, verdictOf, step}
 use Rattle.walk.specs.Walk.{caseOf, walkFrom}
 use Rattle.walk.proofs.OutcomeLaws.{settled-none}

@@ -77,7 +77,7 @@ module _ (p : Plan) (rows : List (List ℕ)) (m : Member) (accepted : AcceptedMe
   f = facts p rows m accepted
 
   enters : y < r
-  enters = accepted .placed .enters
+  enters = accepted .in-range .enters
 
   value-small : (k : ℕ) → PV (settingOf p rows m) k ≤ 7100000000
   unfolding PV
@@ -109,7 +109,7 @@ module _ (p : Plan) (rows : List (List ℕ)) (m : Member) (accepted : AcceptedMe
       let some = divided p rows m accepted CD in
       omega (arith, nearest-mono (top * G b y) (top * 71 * S) (T b y r) some (omega (arith, mul-le-mul {n₁ = top} {n₂ = top} (omega arith) (G-small p rows m accepted y))), nearest-shrinks (top * 71) S (T b y r) some (T-least b y r enters), accepted .capped)
   cost-small CP k from to =
-      let heavy = f .table k (omega (arith, accepted .placed .grown)) (omega (arith, f .head .retire .1)) .weight in
+      let heavy = f .table k (omega (arith, accepted .in-range .grown)) (omega (arith, f .head .retire .1)) .weight in
       let weighty = sound p rows m accepted .weighty in
       omega (arith, percent-small (B p rows m r) (G b y) (weight rows k) (Z b y r) (covers b y k to heavy weighty (G-small p rows m accepted k) (k - y) y (omega arith) (omega arith)) heavy (pay-least p rows m accepted), accepted .capped)
 
@@ -119,8 +119,8 @@ module _ (p : Plan) (rows : List (List ℕ)) (m : Member) (accepted : AcceptedMe
       record {
         benefit = accepted .capped;
         value = value-small (m .age);
-        cost = pick (ltb (m .age) r) (λ t. cost-small (methodOf (p .method)) (m .age) (accepted .placed .past-entry) (ltb-true (m .age) r t)) refl;
-        liability = liability-small (methodOf (p .method)) (m .age) (accepted .placed .past-entry) (accepted .placed .not-past);
+        cost = pick (ltb (m .age) r) (λ t. cost-small (methodOf (p .method)) (m .age) (accepted .in-range .past-entry) (ltb-true (m .age) r t)) refl;
+        liability = liability-small (methodOf (p .method)) (m .age) (accepted .in-range .past-entry) (accepted .in-range .not-past);
       }
     where
       pick : (t : Bool) {n : ℕ} → (ltb (m .age) r ≡ true → n ≤ 7100000050) → t ≡ ltb (m .age) r → cond t n 0 ≤ 7100000050

@@ -35,9 +35,9 @@ module _ (p : Plan) (rows : List (List ℕ)) (m : Member) (accepted : AcceptedMe
   -- ---- the parts fit
   pub divided : (method : Method) → 0 < divisor c method
   divided AB = omega arith
-  divided BD = omega (arith, accepted .placed .enters)
+  divided BD = omega (arith, accepted .in-range .enters)
   divided BP = M-positive c (sound p rows m accepted)
-  divided CD = omega (arith, T-least (planBasis p rows) (m .entry) (p .retire) (accepted .placed .enters))
+  divided CD = omega (arith, T-least (planBasis p rows) (m .entry) (p .retire) (accepted .in-range .enters))
   divided CP = omega (arith, pay-least p rows m accepted)
 
   pub earned-most : (method : Method) (k : ℕ) → m .entry ≤ k → k ≤ p .retire → earned c k method ≤ divisor c method
@@ -54,7 +54,7 @@ module _ (p : Plan) (rows : List (List ℕ)) (m : Member) (accepted : AcceptedMe
   adds-most CD k from below = divided CD
   adds-most CP k from below =
       let f = facts p rows m accepted in
-      omega (arith, pay-least p rows m accepted, f .table k (omega (arith, accepted .placed .grown)) (omega (arith, f .head .retire .1)) .weight)
+      omega (arith, pay-least p rows m accepted, f .table k (omega (arith, accepted .in-range .grown)) (omega (arith, f .head .retire .1)) .weight)
 
   added-most : (method : Method) (k : ℕ) → m .entry ≤ k → (below : Bool) → ltb k (p .retire) ≡ below → cond below (adds c k method) 0 ≤ divisor c method
   added-most method k from true e = adds-most method k from (ltb-true k (p .retire) e)

@@ -1,4 +1,4 @@
--- The parts of a member's figures at an age k: six numbers, whatever engine works them, of which rules 9.1 to 9.8 make V, N and L by any of the five methods. That these are the figures of specs/Valuation.antt is one law, `From-Parts`.
+-- The parts of a member's figures at an age k: six numbers, whatever engine works them, of which rules 9.1 to 9.8 make V, N and L by any of the five methods. That these are the figures of costs/specs/Valuation.antt is one law, `From-Parts`.
 use mathlib.Core.Path.{_≡_}
 use mathlib.Core.Bool.{cond}
 use mathlib.Core.List.{List}
@@ -18,7 +18,7 @@ use Rattle.costs.specs.Setting.{Setting}
 use Rattle.costs.specs.Costs.{r, W, M}
 use Rattle.costs.specs.Valuation.{settingOf, figuresAt}
 
--- ---- the parts of a case
+-- ---- the parts of a setting
 module _ (c : Setting) where
   open Setting c using (basis, y)
 

@@ -1,6 +1,6 @@
 // The parts of a member's figures at one age, and the figures that they give by any method: RULES section 9. An engine
-// works the parts; here nothing is known of a plan, a table or an age. specs/Parts.antt has the parts of a case, and the
-// one law over the five methods, that they give its figures.
+// works the parts; here nothing is known of a plan, a table or an age. specs/Parts.antt has the parts of a setting, and the
+// one law over the five methods, that they give its figures. Each `requires` is what an engine shows.
 use costs::Figures;
 use plan::Method;
 ghost use mathlib.Core.Path.{_≡_};

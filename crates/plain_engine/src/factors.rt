@@ -6,11 +6,12 @@ use plan::Method;
 use plan::Plan;
 use plan::benefit::accrued_benefit;
 use plan::benefit::weights_between;
+use rates::FIRST_AGE;
 use rates::Rows;
 ghost use mathlib.Core.Path.{_≡_};
 ghost use Prim.Native.Nat.{_-_, _≤_, _<_};
 ghost use lib.ListN.{getD};
-ghost use Rattle.rates.specs.Table.{weight};
+ghost use Rattle.rates.specs.Table.{weight, firstAge};
 ghost use Rattle.annuity.specs.Factors.{T, Z};
 ghost use Rattle.plan.specs.Weights.{summed};
 ghost use Rattle.plan.specs.Ranges.{AcceptedMember};
@@ -121,7 +122,7 @@ fn pay_from_entry(p: Plan, rows: &Rows, m: Member, e: usize) -> u64
 // What an array of the ages holds for age k.
 fn of_age(a: &Factors, k: usize) -> u64
     requires { ⌜ (15 ≤ k) × (k ≤ 120) ⌝ }
-    ensures { λ r. ⌜ r ≡ getD (now (a .entry)) (k - 15) 0 ⌝ }
+    ensures { λ r. ⌜ r ≡ getD (now (a .entry)) (k - firstAge) 0 ⌝ }
 {
-    a[k - 15]
+    a[k - FIRST_AGE]
 }

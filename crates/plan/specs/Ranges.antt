@@ -8,7 +8,7 @@ use Rattle.plan.specs.declared.Plan.{Plan}
 use Rattle.plan.specs.declared.Member.{Member}
 use Rattle.plan.specs.Benefit.{B}
 
--- a heading that keeps rules 2.2 to 2.9
+-- what rules 2.2 to 2.9 leave of a heading; of rule 2.6 only what final needs
 pub record HeadRanges (p : Plan) : Type 0 where
   pub interest : p .interest ≤ 2000
   pub retire : (50 ≤ p .retire) × (p .retire ≤ 75)
@@ -38,5 +38,5 @@ pub record InRange (p : Plan) (m : Member) : Type 0 where
 -- what is handed on: such a member of such a plan, that keeps rule 7.8 too; its id plays no part in the figures
 pub record AcceptedMember (p : Plan) (rows : List (List ℕ)) (m : Member) : Type 0 where
   pub plan : PlanRanges p rows
-  pub placed : InRange p m
+  pub in-range : InRange p m
   pub capped : B p rows m (p .retire) ≤ 100000000

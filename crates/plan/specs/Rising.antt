@@ -16,7 +16,7 @@ pub record Climbing (rows : List (List ℕ)) : Type 0 where
   pub above : (k : ℕ) → 15 ≤ k → k ≤ 120 → 0 < weight rows k
   pub climbs : (k : ℕ) → 15 ≤ k → k < 120 → weight rows k ≤ weight rows (k + 1)
 
--- by each of the three formulas: under a heading that keeps rules 2.2 to 2.9, and of the table by its weights alone
+-- by each of the three formulas: under a heading in these ranges, and of the table by its weights alone
 abbrev pub Never-Falls : Type 0
 Never-Falls =
     (p : Plan) (rows : List (List ℕ)) (m : Member) → HeadRanges p → Climbing rows → InRange p m → Rising p rows m

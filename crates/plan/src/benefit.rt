@@ -2,9 +2,9 @@
 use crate::Formula;
 use crate::Member;
 use crate::Plan;
-use crate::wide;
 use rates::FIRST_AGE;
 use rates::Rows;
+use rates::word;
 ghost use mathlib.Core.Path.{_≡_};
 ghost use Prim.Native.Nat.{_-_, _*_, _≤_, _<_, min};
 ghost use Rattle.rounding.specs.Nearest.{nearest};
@@ -57,7 +57,7 @@ pub fn weights_between(rows: &Rows, a: u64, b: u64) -> u64
     let mut k = a;
     while k < b {
         let row = rows[k as usize - FIRST_AGE];
-        sum += wide(row[3]);
+        sum += word(row[3]);
         k += 1;
     }
     sum
@@ -87,7 +87,7 @@ fn benefit(p: Plan, rows: &Rows, m: Member, k: u64, first: u64, weights: u64) ->
     }
     let years = k - entry;
     let row = rows[m.age as usize - FIRST_AGE];
-    let now = wide(row[3]);
+    let now = word(row[3]);
     let formula = formula_of(p.formula);
     match formula {
         Formula::Flat => p.unit * years,

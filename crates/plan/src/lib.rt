@@ -1,11 +1,9 @@
-// A plan, its rows and a member handed in as plain values (rules 5.3 to 5.5), and pay and benefit, RULES section 7.
-// benefit.rt has the accrued benefit. specs/ has what every contract is an equation with, pay and benefit in Benefit and
+// A plan and a member handed in as plain values (rules 5.3 to 5.5), and pay and benefit, RULES section 7; the rows are the
+// crate rates'. benefit.rt has the accrued benefit. specs/ has what every contract is an equation with, pay and benefit in Benefit and
 // Weights; in Ranges what the benefit asks of a plan and a member; and in Rising the law that the benefit never falls. A formula
 // or method is a code: 1 flat, 2 career, 3 final; 1 AB, 2 BD, 3 BP, 4 CD, 5 CP; so a field that was never set is refused. Money
 // is in cents, a rate in millionths, and each field is wide enough to hold a wrong value.
 pub mod benefit;
-
-ghost use mathlib.Core.Path.{_≡_};
 
 // Rule 2.4: how the benefit accrues.
 pub enum Formula {
@@ -49,10 +47,3 @@ pub const MOST_MEMBERS: usize = 1_000;
 
 // The members, each by its id, entry age, age and salary.
 pub type Members = [[u64; 4]; MOST_MEMBERS];
-
-// A number of the table as a word.
-pub fn wide(x: u32) -> u64
-    ensures { λ r. ⌜ r ≡ x ⌝ }
-{
-    x as u64
-}

@@ -4,8 +4,8 @@ use mathlib.Core.List.{List, [], _∷_, _++_, append-nil}
 use Prim.Native.Nat.{ℕ, zero, suc, _+_, _-_, _≤_, _<_}
 use native.Mathlib.Omega.{arith}
 use native.Mathlib.Numerals.{add-one}
-use lib.ListN.{length, getD, take, drop, set, length-drop, length-set, length-append, drop-of-length-le, take-append-drop}
-use lib.Seq.{take-all, take-suc, drop-set-add, take-set-le, getD-set-same, getD-set-other, sets, length-sets}
+use lib.ListN.{length, getD, take, drop, set, length-drop, length-append, drop-of-length-le, take-append-drop}
+use lib.Seq.{take-all, take-suc, drop-set-add, take-set-le, sets, length-sets}
 use borrow.Rule.Slice.PartMut.{putMid}
 use Rattle.printing.specs.Puts.{Puts}
 
@@ -53,15 +53,3 @@ lent l a {text} p =
       holds = rw (p .holds, take-all (length l - a) (drop a l) all, drop-of-length-le (drop a l) all, append-nil) (rw here at part);
       ends = omega (arith, p .ends);
     }
-
--- what stands before a text, and in it
-pub before-text : (l : List ℕ) (i : ℕ) (vs : List ℕ) (j : ℕ) → j < i → getD (sets l i vs) j 0 ≡ getD l j 0
-before-text l i [] j h = refl
-before-text l i (v ∷ vs) j h = before-text (set l i v) (suc i) vs j (omega arith) ∙ getD-set-other l i j v 0 (λ (e : j ≡ i). absurd (omega arith))
-
-pub in-text : (l : List ℕ) (i : ℕ) (vs : List ℕ) (k : ℕ) {j : ℕ} → j ≡ i + k → k < length vs → i + length vs ≤ length l → getD (sets l i vs) j 0 ≡ getD vs k 0
-in-text l i [] k at h fits = absurd (omega arith)
-in-text l i (v ∷ vs) zero {j} at h fits =
-    let here : j ≡ i = omega arith in
-    rw here (before-text (set l i v) (suc i) vs i (omega arith) ∙ getD-set-same l i v 0 (omega arith))
-in-text l i (v ∷ vs) (suc k) at h fits = in-text (set l i v) (suc i) vs k (omega arith) (omega arith) (rw (length-set l i v) (omega arith))

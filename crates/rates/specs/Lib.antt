@@ -1,3 +1,3 @@
-pub mod Worked
+pub mod ByHand
 pub mod Rates
 pub mod Table

@@ -6,7 +6,7 @@ use Prim.Native.Nat.{ℕ, _+_, _-_, _*_, _≤_, _<_}
 use lib.ListN.{getD}
 use lib.Dec.{ltb}
 use Rattle.rounding.specs.Nearest.{nearest}
-use Rattle.rates.specs.Worked.{Figure, _is_, all-are}
+use Rattle.rates.specs.ByHand.{Figure, _is_, all-are}
 
 -- rule 3.1, the rates of a row, in millionths
 abbrev pub death : List ℕ → ℕ

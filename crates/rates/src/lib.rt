@@ -59,7 +59,7 @@ pub fn weight(rows: Rows, k: usize) -> u64
     requires { ⌜ (15 ≤ k) × (k ≤ 120) ⌝ }
     ensures { λ w. ⌜ w ≡ Table·weight rows k ⌝ }
 {
-    word(rows[k - 15][3])
+    word(rows[k - FIRST_AGE][3])
 }
 
 // A number of a row, as wide as what is worked with it.

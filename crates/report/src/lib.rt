@@ -1,5 +1,6 @@
 // The lines of a report, RULES section 13: those of the members and of the plan, or the one line of a refusal. A writer
-// puts them at their place and answers the place after them; with no bytes to write to it measures.
+// puts them at their place and answers the place after them; with no bytes to write to it measures. Each `requires` is what accepted
+// members show.
 use costs::Figures;
 use plan::Members;
 use printing::lines::write_end;

@@ -4,6 +4,7 @@ use fields::lines::Read;
 use fields::lines::five_values;
 use fields::text::from;
 use rates::AGES;
+use rates::FIRST_AGE;
 use rates::Rows;
 use rules::refusals::CUT_OFF;
 use rules::refusals::PLAN_FORM;
@@ -94,9 +95,9 @@ pub fn row_lines(s: &[u8], first: u64, ranges: bool, rows: &mut Rows) -> Stretch
     let mut k: usize = 0;
     let mut before: u64 = 0;
     while k < AGES {
-        match row_line(from(s, at), k as u64 + 15, &mut values) {
+        match row_line(from(s, at), k as u64 + FIRST_AGE as u64, &mut values) {
             Line::Good(e) => {
-                let refusal = row_refusal(ranges, k + 15, before, &values);
+                let refusal = row_refusal(ranges, k + FIRST_AGE, before, &values);
                 if refusal != 0 {
                     return Stretch::Refused(refusal, line);
                 }

@@ -6,10 +6,10 @@ use crate::refusals::OUT_OF_RANGE;
 use crate::refusals::WRONG_LAST_DEATH;
 use crate::refusals::WRONG_WEIGHT;
 use crate::unless;
-use plan::wide;
 use rates::FIRST_AGE;
 use rates::LAST_AGE;
 use rates::Rows;
+use rates::word;
 ghost use mathlib.Core.Path.{_≡_};
 ghost use mathlib.Core.Bool.{_&&_, cond, true};
 ghost use lib.Dec.{eqb, leb};
@@ -31,10 +31,10 @@ pub struct Row {
 fn row_of(row: [u32; 4]) -> Row
     ensures { λ r. ⌜ r ≡ rowNumbers row ⌝ }
 {
-    let death = wide(row[0]);
-    let withdrawal = wide(row[1]);
-    let disability = wide(row[2]);
-    let weight = wide(row[3]);
+    let death = word(row[0]);
+    let withdrawal = word(row[1]);
+    let disability = word(row[2]);
+    let weight = word(row[3]);
     Row {
         death,
         withdrawal,

@@ -9,7 +9,7 @@ use lib.Dec.{ltb}
 use lib.ListN.{length, getD, length-append, List·getD-append}
 use borrow.Author.Tests.{ltb-true, ltb-false, le-leb, ne-eqb}
 use Rattle.fields.specs.Split.{hasOf, uptoOf, pastOf}
-use Rattle.fields.specs.Numbers.{value, allDigits as allDigits, number, wholeForm, digitsOf, wholeOf, amountOf}
+use Rattle.fields.specs.Numbers.{value, allDigits, number, wholeForm, digitsOf, wholeOf, amountOf}
 use Rattle.fields.proofs.SplitLaws.{and-false, after, here}
 use Rattle.fields.proofs.FieldLaws.{is-digit, digits-both, number-more, lacks-digits}
 use Rattle.printing.specs.Amounts.{digits, wholeNumber, amount}

@@ -5,7 +5,7 @@ use mathlib.Core.List.{List, [], _∷_, _++_}
 use lib.IntN.{pos, natAbs, _+ℤ_}
 use Rattle.rounding.specs.Nearest.{nearest, nearestℤ}
 use Rattle.fractions.specs.Ratio.{_over_, whole, _⊕_, _⊗_, inverse}
-use Rattle.rates.specs.Worked.{Figure, _is_, all-are}
+use Rattle.rates.specs.ByHand.{Figure, _is_, all-are}
 use Rattle.annuity.specs.Recursion.{carried}
 use Rattle.rates.specs.Rates.{able, serves, leaves, stays, rates}
 use Rattle.rates.specs.Table.{staying}
@@ -21,7 +21,7 @@ use Rattle.costs.specs.Costs.{PV, cost, N, L}
 use Rattle.costs.specs.Valuation.{methodOf, figuresAt, figures}
 use Rattle.costs.specs.Figures.{short-plan, short-member, figures as member-figures}
 use Rattle.fields.specs.Text.{bytes}
-use Rattle.printing.specs.Amounts.{digits, width, wholeNumber as wholeText, amount, signedAmount}
+use Rattle.printing.specs.Amounts.{digits, width, wholeNumber, amount, signedAmount}
 use Rattle.printing.specs.Lines.{fields, amountsLine, signedLine}
 use Rattle.totals.specs.Totals.{total, unfunded, supplemental}
 use Rattle.report.specs.Lines.{figuresLine, totalLine, planLines, memberLine, memberLines, printed}
@@ -46,5 +46,5 @@ proved-set-stands = refl
 
 -- rule 14.2: the short case, as it is printed
 pub short-lines : printed short-plan short (short-member ∷ []) ≡ bytes "member=7,200.00,181.82,86.58,95.24\ntotal=1,181.82,86.58,95.24\nunfunded=75.24\nsupplemental=39.41\n"
-unfolding printed memberLines memberLine planLines totalLine figuresLine amountsLine signedLine fields signedAmount amount wholeText width digits total unfunded supplemental figures figuresAt methodOf formulaOf exactBenefit B PV cost N L short able serves stays staying nearest nearestℤ carried step A pension G T C _over_ whole
+unfolding printed memberLines memberLine planLines totalLine figuresLine amountsLine signedLine fields signedAmount amount wholeNumber width digits total unfunded supplemental figures figuresAt methodOf formulaOf exactBenefit B PV cost N L short able serves stays staying nearest nearestℤ carried step A pension G T C _over_ whole
 short-lines = refl

@@ -26,7 +26,7 @@ use Rattle.walk.specs.Lines.{person, end, tailOf}
 use Rattle.walk.specs.Walk.{Case}
 use Rattle.walk.specs.Kept.{nobody}
 use Rattle.casefile.specs.Answers.{acceptingOf}
-use Rattle.printing.specs.Amounts.{amount, wholeNumber as wholeNumber}
+use Rattle.printing.specs.Amounts.{amount, wholeNumber}
 use Rattle.printing.specs.Lines.{signedLine}
 use Rattle.totals.specs.Totals.{total, total*, totals, unfunded, supplemental}
 use Rattle.report.specs.Lines.{figuresLine, totalLine}

@@ -1,4 +1,4 @@
--- What the program tests of a case before it asks for the factors.
+-- What the program tests of a question before it asks for the factors.
 use mathlib.Core.List.{List}
 use Prim.Native.Nat.{ℕ, _≤_}
 use Rattle.rates.specs.Table.{Table}

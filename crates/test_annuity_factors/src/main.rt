@@ -6,11 +6,11 @@ use annuity::Factors;
 use libc::STDIN_FILENO;
 use libc::STDOUT_FILENO;
 use rates::Rows;
+use test_support::byte;
 use test_support::rows_at;
-use test_support::wide;
 ghost use mathlib.Core.Bool.{true};
 ghost use mathlib.Core.Path.{_≡_};
-ghost use Prim.Native.Nat.{_+_, _≤_, _<_};
+ghost use Prim.Native.Nat.{_≤_};
 ghost use Rattle.test_annuity_factors.specs.Question.{Question};
 
 // How many bytes a case has.
@@ -38,22 +38,22 @@ fn case() -> bool {
 }
 
 fn answer(bytes: &[u8; SIZE]) {
-    let i = wide(bytes[0]) + 256 * wide(bytes[1]);
+    let i = byte(bytes[0]) + 256 * byte(bytes[1]);
     let r = age(bytes[2]);
     let e = age(bytes[3]);
-    let m = wide(bytes[4]);
+    let m = byte(bytes[4]);
     write(rows_at(bytes, ROWS), i, r, e, m);
 }
 
 fn write(rows: Rows, i: u64, r: usize, e: usize, m: u64) {
-    if is_case(rows, i, r, e, m) {
+    if is_question(rows, i, r, e, m) {
         factors(rows, i, r, e, m);
     } else {
         io::write_all(STDOUT_FILENO, b"skipped\n");
     }
 }
 
-fn is_case(rows: Rows, i: u64, r: usize, e: usize, m: u64) -> bool
+fn is_question(rows: Rows, i: u64, r: usize, e: usize, m: u64) -> bool
     ensures { λ t. ⌜ (t ≡ true → Question rows i r e m) ⌝ }
 {
     if i > 2000 || m > 40 || r < 15 || r > 120 || e < 15 || e > 120 {

@@ -6,6 +6,7 @@ use casefile::Accepting;
 use casefile::Reading;
 use libc::STDIN_FILENO;
 use libc::STDOUT_FILENO;
+use plan::MOST_MEMBERS;
 use plan::Members;
 use plan::Plan;
 use rates::AGES;
@@ -68,7 +69,7 @@ fn reading(case: &[u8]) {
 
 fn accepting(case: &[u8]) {
     let mut rows = [[0u32; 4]; AGES];
-    let mut members = [[0u64; 4]; 1000];
+    let mut members = [[0u64; 4]; MOST_MEMBERS];
     match casefile::accept_case(case, &mut rows, &mut members) {
         Accepting::Accepted(p, count) => {
             io::write_all(STDOUT_FILENO, b"accepted=");
@@ -120,7 +121,7 @@ fn sum_of_row(so_far: u64, row: [u32; 4]) -> u64 {
 
 fn sum_of_members(members: Members, count: u64) -> u64 {
     let mut total = 0;
-    for j in 0..1000 {
+    for j in 0..MOST_MEMBERS {
         if (j as u64) < count {
             total = sum_of_member(total, members[j]);
         }

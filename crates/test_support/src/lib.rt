@@ -30,12 +30,12 @@ fn row_at(bytes: &[u8], at: usize) -> [u32; 4]
 pub fn number_at(bytes: &[u8], at: usize) -> u32
     requires { ⌜ at + 4 ≤ length (now bytes) ⌝ }
 {
-    let low = wide(bytes[at]) + 256 * wide(bytes[at + 1]);
-    let high = wide(bytes[at + 2]) + 256 * wide(bytes[at + 3]);
+    let low = byte(bytes[at]) + 256 * byte(bytes[at + 1]);
+    let high = byte(bytes[at + 2]) + 256 * byte(bytes[at + 3]);
     (low + 65_536 * high) as u32
 }
 
-pub fn wide(x: u8) -> u64
+pub fn byte(x: u8) -> u64
     ensures { λ r. ⌜ r < 256 ⌝ }
 {
     x as u64

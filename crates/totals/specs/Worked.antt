@@ -24,7 +24,7 @@ pub record AcceptedMembers (p : Plan) (rows members : List (List ℕ)) (n : ℕ)
   pub few : n ≤ mostMembers
   pub member : (j : ℕ) → j < n → AcceptedMember p rows (memberAt members j)
 
--- the figures at place j
+-- four words as figures; and those at place j of an array
 abbrev pub figuresStored : List ℕ → Figures
 figuresStored f = record { benefit = getD f 0 0; value = getD f 1 0; cost = getD f 2 0; liability = getD f 3 0 }
 

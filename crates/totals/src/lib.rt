@@ -10,7 +10,6 @@ use rates::Rows;
 use rounding::Signed;
 ghost use mathlib.Core.Path.{_≡_};
 ghost use Prim.Native.Nat.{_≤_, _<_};
-ghost use lib.ListN.{length};
 ghost use lib.IntN.{pos, _-ℤ_, _*ℤ_};
 ghost use Rattle.rounding.specs.Nearest.{nearestℤ};
 ghost use Rattle.rounding.specs.Signed.{integerOf, signed};

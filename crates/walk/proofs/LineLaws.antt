@@ -14,7 +14,7 @@ use Rattle.fields.proofs.SplitLaws.{off}
 use Rattle.fields.proofs.LineLaws.{upto-all}
 use Rattle.walk.specs.Outcome.{Outcome, andThen}
 use Rattle.walk.specs.Step.{State, step}
-use Rattle.walk.specs.Walk.{Case, longer, linesOf, restOf, nextOf, closed, folded, walkFrom}
+use Rattle.walk.specs.Walk.{Case, linesOf, restOf, nextOf, closed, folded, walkFrom}
 use Rattle.walk.proofs.OutcomeLaws.{then-then}
 
 -- the first line and the lines after it; with no byte 10 no line, and all the bytes left

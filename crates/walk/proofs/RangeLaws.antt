@@ -1,5 +1,5 @@
--- The range rules, by the numbers that they give: 0 where a rule is kept, and else a number of ranges of its part.
-use Prim.Native.Nat.{ℕ, zero, suc, _+_}
+-- The range rules, by the numbers that they give: 0 where a rule is kept, and else a number of ranges of its section.
+use Prim.Native.Nat.{ℕ, zero, suc}
 use mathlib.Core.Path.{_≡_, refl}
 use mathlib.Core.List.{List, [], _∷_, _++_}
 use mathlib.Core.Bool.{Bool, true, false, cond, _&&_}
@@ -23,18 +23,18 @@ use Rattle.walk.specs.Answers.{Section, in-heading, in-table, in-members
 
 -- no refusal, or a range's
 abbrev pub Ranged : Section → ℕ → Type 0
-Ranged part n = (n ≡ 0) ⊎ RangeOf part n
+Ranged section n = (n ≡ 0) ⊎ RangeOf section n
 
-rule-ranged : {part : Section} (b : Bool) {n : ℕ} → RangeOf part n → Ranged part (unless b n)
+rule-ranged : {section : Section} (b : Bool) {n : ℕ} → RangeOf section n → Ranged section (unless b n)
 rule-ranged true r = inl refl
 rule-ranged false r = inr r
 
-module _ (part : Section) where
+module _ (section : Section) where
   abbrev AllRanged : List ℕ → Type 0
   AllRanged [] = Unit {0}
-  AllRanged (a ∷ later) = Ranged part a × AllRanged later
+  AllRanged (a ∷ later) = Ranged section a × AllRanged later
 
-  all-ranged : (rules : List ℕ) → AllRanged rules → Ranged part (firstOf rules)
+  all-ranged : (rules : List ℕ) → AllRanged rules → Ranged section (firstOf rules)
   all-ranged [] r = inl refl
   all-ranged (zero ∷ later) r = all-ranged later (r .1)
   all-ranged (suc a ∷ later) r = rw (eqb·suc-zero a) (r .0)

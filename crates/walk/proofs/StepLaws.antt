@@ -3,7 +3,7 @@ use Prim.Native.Nat.{ℕ, _+_, _≤_, _<_}
 use mathlib.Core.Path.{_≡_, refl}
 use mathlib.Core.List.{List, [], _∷_, _++_, append-assoc, append-nil}
 use mathlib.Core.Bool.{Bool, true, false, cond}
-use mathlib.Core.Logic.{_⊎_, inl, inr, ⊎-elim, _↔_}
+use mathlib.Core.Logic.{inl, inr, ⊎-elim, _↔_}
 use lib.ListN.{length, getD, length-append}
 use lib.Dec.{eqb, leb}
 use native.Mathlib.Omega.{arith}
@@ -33,11 +33,11 @@ each-next rule before (b ∷ l) a =
     ((λ e. let f = h .0 (e .1) in ((e .0, f .0), f .1)), (λ e. (e .0 .0, h .1 (e .0 .1, e .1))))
 
 -- ---- what is due, and at which line
-abbrev pub partOf : State → Section
-partOf (heading h) = in-heading
-partOf (table h) = in-table
-partOf (people h members) = in-members
-partOf (ended h members) = past-end
+abbrev pub sectionOf : State → Section
+sectionOf (heading h) = in-heading
+sectionOf (table h) = in-table
+sectionOf (people h members) = in-members
+sectionOf (ended h members) = past-end
 
 -- how many items a state holds, and line k is due
 abbrev pub Sized : ℕ → State → Type 0
@@ -51,12 +51,12 @@ Sized k (ended h members) =
 
 -- a line wrong in its form has a number of form; one right in its form is refused by a number of ranges, and adds one item
 pub record Next (state : State) (r : ℕ) (next : State) : Type 0 where
-  pub ranged : Ranged (partOf state) r
+  pub ranged : Ranged (sectionOf state) r
   pub kept : Kept next ↔ (Kept state × (r ≡ 0))
   pub sized : (k : ℕ) → Sized k state → Sized (k + 1) next
 
 abbrev pub Lawful : State → Verdict → Type 0
-Lawful state (wrong r n) = (r ≡ 0) × FormOf (partOf state) n
+Lawful state (wrong r n) = (r ≡ 0) × FormOf (sectionOf state) n
 Lawful state (right r next) = Next state r next
 
 below : {n m : ℕ} → n ≤ m → (n ≡ m → ⊥) → n < m
@@ -191,7 +191,7 @@ line-sized k state line ahead s = of-right (λ r next. Sized (k + 1) next) state
 
 in-order : (state : State) (x : Verdict) → Lawful state x → InOrder x
 in-order state (wrong r n) h = h .0
-in-order state (right r next) h = ⊎-elim inl (λ n. inr (of-line (partOf state) n)) (h .ranged)
+in-order state (right r next) h = ⊎-elim inl (λ n. inr (of-line (sectionOf state) n)) (h .ranged)
 
 pub line-order : (state : State) (line ahead : List ℕ) → InOrder (verdictOf state line ahead)
 line-order state line ahead = in-order state (verdictOf state line ahead) (lawful state line ahead)

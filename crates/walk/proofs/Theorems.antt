@@ -3,7 +3,7 @@ use Prim.Native.Nat.{ℕ, zero, suc, _+_, _<_}
 use mathlib.Core.Path.{_≡_, refl, sym, _∙_}
 use mathlib.Core.List.{List}
 use mathlib.Core.Bool.{Bool, true, false, cond}
-use mathlib.Core.Logic.{_⊎_, inl, inr, ⊎-elim}
+use mathlib.Core.Logic.{inl, inr, ⊎-elim}
 use lib.ListN.{length}
 use lib.Dec.{ltb, eqb, eqb·suc-zero}
 use native.Mathlib.Omega.{arith}
@@ -13,20 +13,20 @@ use Rattle.walk.specs.Outcome.{Outcome, values, refusal}
 use Rattle.walk.specs.Terms.{termForms}
 use Rattle.walk.specs.Step.{State, heading, table, people, ended, Verdict, wrong, right, verdictOf, judged, step}
 use Rattle.walk.specs.Walk.{Case, linesOf, restOf, closed, start, walkFrom, walkOf}
-use Rattle.walk.specs.Answers.{FormOf, term-cut, row-cut, tail-cut, after-end, RangeOf, FormNumber, too-large, of-line, LineOf, Placed, no-line, of-form, of-range, RefusalsArePlaced, ReadingGivesForm, ReadingRefuses, AcceptingRefuses}
+use Rattle.walk.specs.Answers.{FormOf, term-cut, row-cut, tail-cut, after-end, RangeOf, FormNumber, too-large, of-line, LinesOf, Placed, no-line, of-form, of-range, RefusalsArePlaced, ReadingGivesForm, ReadingRefuses, AcceptingRefuses}
 use Rattle.walk.proofs.OutcomeLaws.{settled-none, Only}
 use Rattle.walk.proofs.LineLaws.{along}
 use Rattle.walk.proofs.FoldLaws.{Right, along-only, Before, NoLater, along-no-later}
-use Rattle.walk.proofs.StepLaws.{partOf, Sized, Lawful, lawful, line-sized, line-order}
+use Rattle.walk.proofs.StepLaws.{sectionOf, Sized, Lawful, lawful, line-sized, line-order}
 
--- ---- one line by its number: a law over the numbers of its part
-module _ (ranges : Bool) (P : ℕ → ℕ → Type 0) (k : ℕ) (state : State) (form : (n : ℕ) → FormOf (partOf state) n → P n k) where
-  judged-only : (ranges ≡ true → (n : ℕ) → RangeOf (partOf state) n → P n k) → (x : Verdict) → Lawful state x → Only P (judged ranges k x)
+-- ---- one line by its number: a law over the numbers of its section
+module _ (ranges : Bool) (P : ℕ → ℕ → Type 0) (k : ℕ) (state : State) (form : (n : ℕ) → FormOf (sectionOf state) n → P n k) where
+  judged-only : (ranges ≡ true → (n : ℕ) → RangeOf (sectionOf state) n → P n k) → (x : Verdict) → Lawful state x → Only P (judged ranges k x)
   judged-only range (wrong r n) h = rw (h .0, settled-none ranges) (form n (h .1))
   judged-only range (right zero next) h = rw (settled-none ranges) tt
   judged-only range (right (suc r) next) h = pick ranges refl (⊎-elim (λ e. absurd (omega arith)) (λ n. n) (h .ranged))
     where
-      pick : (t : Bool) → ranges ≡ t → RangeOf (partOf state) (suc r) → Only P (judged t k (right (suc r) next))
+      pick : (t : Bool) → ranges ≡ t → RangeOf (sectionOf state) (suc r) → Only P (judged t k (right (suc r) next))
       pick true on n = rw (eqb·suc-zero r) (range on (suc r) n)
       pick false on n = tt
 
@@ -37,13 +37,13 @@ module _ (ranges : Bool) (P : ℕ → ℕ → Type 0) (k : ℕ) (state : State) 
   closed-only : (rest : List ℕ) → Only P (closed k rest state)
   closed-only rest = go state form
     where
-      go : (state : State) → ((n : ℕ) → FormOf (partOf state) n → P n k) → Only P (closed k rest state)
+      go : (state : State) → ((n : ℕ) → FormOf (sectionOf state) n → P n k) → Only P (closed k rest state)
       go (heading h) form = form _ term-cut
       go (table h) form = form _ row-cut
       go (people h members) form = form _ tail-cut
       go (ended h members) form = ended-only (ended h members) _ (eqb (length rest) 0) (form _ after-end)
 
-  pub step-only : (ranges ≡ true → (n : ℕ) → RangeOf (partOf state) n → P n k) → (line ahead : List ℕ) → Only P (step ranges k state line ahead)
+  pub step-only : (ranges ≡ true → (n : ℕ) → RangeOf (sectionOf state) n → P n k) → (line ahead : List ℕ) → Only P (step ranges k state line ahead)
   unfolding step
   step-only range line ahead = judged-only range (verdictOf state line ahead) (lawful state line ahead)
 
@@ -68,12 +68,12 @@ walk-form : (s : List ℕ) → Only (λ n l. FormNumber n) (walkOf false s)
 unfolding walkFrom
 walk-form s =
     let P : ℕ → ℕ → Type 0 = λ n l. FormNumber n in
-    let form : (k : ℕ) (state : State) (n : ℕ) → FormOf (partOf state) n → P n k = λ k state n f. of-line (partOf state) f in
+    let form : (k : ℕ) (state : State) (n : ℕ) → FormOf (sectionOf state) n → P n k = λ k state n f. of-line (sectionOf state) f in
     short-or-long (λ read accepted. Only P read) s too-large
     (along-only false P (λ k state. Unit {0}) any-line (λ k state line ahead h. step-only false P k state (form k state) (λ e. off (sym e)) line ahead) (λ k rest state h. closed-only false P k state (form k state) rest) (restOf s) 1 start (linesOf s) tt)
 
--- each refusal is at a line of its part
-line-of : (k : ℕ) (state : State) → Sized k state → LineOf (partOf state) k
+-- each refusal is at a line of its section
+line-of : (k : ℕ) (state : State) → Sized k state → LinesOf (sectionOf state) k
 line-of k (heading h) s = (omega (arith, s .0), omega (arith, s .0, s .1))
 line-of k (table h) s = (omega (arith, s .0), omega (arith, s .0, s .2))
 line-of k (people h members) s = (omega (arith, s .0), omega (arith, s .0, s .3))
@@ -86,8 +86,8 @@ start-sized = (omega arith, omega arith, refl)
 lines-placed : (ranges : Bool) (s : List ℕ) → Only Placed (walkFrom ranges 1 start s)
 unfolding walkFrom
 lines-placed ranges s =
-    let form : (k : ℕ) (state : State) → Sized k state → (n : ℕ) → FormOf (partOf state) n → Placed n k = λ k state h n f. of-form (partOf state) f (line-of k state h) in
-    along-only ranges Placed Sized line-sized (λ k state line ahead h. step-only ranges Placed k state (form k state h) (λ on n r. of-range (partOf state) r (line-of k state h)) line ahead) (λ k rest state h. closed-only ranges Placed k state (form k state h) rest) (restOf s) 1 start (linesOf s) start-sized
+    let form : (k : ℕ) (state : State) → Sized k state → (n : ℕ) → FormOf (sectionOf state) n → Placed n k = λ k state h n f. of-form (sectionOf state) f (line-of k state h) in
+    along-only ranges Placed Sized line-sized (λ k state line ahead h. step-only ranges Placed k state (form k state h) (λ on n r. of-range (sectionOf state) r (line-of k state h)) line ahead) (λ k rest state h. closed-only ranges Placed k state (form k state h) rest) (restOf s) 1 start (linesOf s) start-sized
 
 pub refusals-are-placed : RefusalsArePlaced
 unfolding walkOf

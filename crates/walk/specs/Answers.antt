@@ -47,23 +47,23 @@ pub data RangeOf : Section → ℕ → Type 0 where
 -- rule 5.1: the numbers of form; rule 12.3: those of ranges
 pub data FormNumber : ℕ → Type 0 where
   too-large : FormNumber tooLarge
-  of-line : {n : ℕ} → (part : Section) → FormOf part n → FormNumber n
+  of-line : {n : ℕ} → (section : Section) → FormOf section n → FormNumber n
 
 pub data RangeNumber : ℕ → Type 0 where
-  of-line : {n : ℕ} → (part : Section) → RangeOf part n → RangeNumber n
+  of-line : {n : ℕ} → (section : Section) → RangeOf section n → RangeNumber n
 
--- ---- which lines a number can have: 0 for the file's size, and else those of its part
+-- ---- which lines a number can have: 0 for the file's size, and else those of its section
 -- rule 1.7: 8 lines of terms, 106 rows, at most 1,000 members and the end
-abbrev pub LineOf : Section → ℕ → Type 0
-LineOf in-heading l = (1 ≤ l) × (l ≤ length termForms)
-LineOf in-table l = (length termForms < l) × (l ≤ length termForms + ages)
-LineOf in-members l = (length termForms + ages < l) × (l ≤ length termForms + ages + mostMembers + 1)
-LineOf past-end l = (length termForms + ages + 1 < l) × (l ≤ length termForms + ages + mostMembers + 2)
+abbrev pub LinesOf : Section → ℕ → Type 0
+LinesOf in-heading l = (1 ≤ l) × (l ≤ length termForms)
+LinesOf in-table l = (length termForms < l) × (l ≤ length termForms + ages)
+LinesOf in-members l = (length termForms + ages < l) × (l ≤ length termForms + ages + mostMembers + 1)
+LinesOf past-end l = (length termForms + ages + 1 < l) × (l ≤ length termForms + ages + mostMembers + 2)
 
 pub data Placed : (number line : ℕ) → Type 0 where
   no-line : Placed tooLarge 0
-  of-form : {n l : ℕ} → (part : Section) → FormOf part n → LineOf part l → Placed n l
-  of-range : {n l : ℕ} → (part : Section) → RangeOf part n → LineOf part l → Placed n l
+  of-form : {n l : ℕ} → (section : Section) → FormOf section n → LinesOf section l → Placed n l
+  of-range : {n l : ℕ} → (section : Section) → RangeOf section n → LinesOf section l → Placed n l
 
 abbrev pub RefusalsArePlaced : Type 0
 RefusalsArePlaced = (ranges : Bool) (s : List ℕ) (n l : ℕ) → walkOf ranges s ≡ refusal n l → Placed n l

@@ -1,4 +1,4 @@
--- The lines after the heading: a row, RULES section 3; a member or the end, section 4. The range rules are the crate plan's.
+-- The lines after the heading: a row, RULES section 3; a member or the end, section 4. The range rules of a row are the crate rules', those of a member the crate acceptance's.
 use Prim.Native.Nat.{ℕ, _+_}
 use mathlib.Core.List.{List, [], _∷_}
 use mathlib.Core.Bool.{Bool, cond}

@@ -26,7 +26,7 @@ pub data State : Type 0 where
   people : Head → (members : List Member) → State
   ended : Head → (members : List Member) → State
 
--- a line: wrong in its form, by its number, with what its range rules refuse before that; or right, with what its range rules refuse and
+-- what is said of a line: wrong in its form, by its number, with what its range rules refuse before that; or right, with what its range rules refuse and
 -- the state after it. 0 is no refusal. No rule refuses a range before a form yet
 pub data Verdict : Type 0 where
   wrong : (range number : ℕ) → Verdict

@@ -8,7 +8,7 @@ use Rattle.rules.specs.Refusals.{highBenefit}
 use Rattle.rules.specs.Rules.{unless}
 use Rattle.acceptance.specs.Acceptance.{benefitRules}
 use Rattle.rules.proofs.RuleLaws.{first-alone}
-use Rattle.acceptance.proofs.Facts.{plan-facts, placed-facts, fields-refused, fields-kept}
+use Rattle.acceptance.proofs.Facts.{plan-facts, range-facts, fields-refused, fields-kept}
 use Rattle.acceptance.proofs.member_refusal.Statement.{statement}
 use Rattle.acceptance.proofs.member_refusal.Tie as tie
 
@@ -18,13 +18,13 @@ returns c =
     let e = c .before .fields-refusal .ensures in
     e ∙ sym (fields-refused (a .p) (a .rows .now) (a .before) (a .m) (λ z. c .if1 .taken (e ∙ z)))
 
--- fields that are right place the member
+-- fields that are right are in range
 accrued-benefit-requires : tie.Need-accrued-benefit-requires
 accrued-benefit-requires c κs =
     let s = c .before .before in
     let a = s .args in
-    let placed = placed-facts (a .p) (a .before) (a .m) (sym (c .before .fields-refusal .ensures) ∙ c .if1 .left) in
-    (plan-facts (a .p) (a .rows .now) (s .pre), placed, le-of-lt (placed .enters), le-refl (a .p .retire))
+    let ranges = range-facts (a .p) (a .before) (a .m) (sym (c .before .fields-refusal .ensures) ∙ c .if1 .left) in
+    (plan-facts (a .p) (a .rows .now) (s .pre), ranges, le-of-lt (ranges .enters), le-refl (a .p .retire))
 
 returns-2 : tie.Need-returns-2
 unfolding benefitRules

@@ -11,7 +11,7 @@ use Rattle.plain_engine.proofs.figures_of.Tie as tie
 law : (c : tie.After-method-of) → let a = c .before .args in Gives (a .p) (a .t2) (a .m) (c .method-of .result) (a .m .age)
 law c =
     let s = c .before in
-    from-parts (s .args .p) (s .args .t2) (s .args .m) (s .pre) (c .method-of .result) (s .args .m .age) (s .pre .placed .past-entry) (s .pre .placed .not-past)
+    from-parts (s .args .p) (s .args .t2) (s .args .m) (s .pre) (c .method-of .result) (s .args .m .age) (s .pre .in-range .past-entry) (s .pre .in-range .not-past)
 
 figures-from-requires : tie.Need-figures-from-requires
 figures-from-requires c κs = rw (c .parts-at .ensures) (law (c .before .before) .fits)

@@ -1,4 +1,4 @@
--- `division::words_div_nearest` meets its contract.
+-- `rounding::words_div_nearest` meets its contract.
 use Prim.Native.Nat.{_^_}
 use Rattle.division.specs.Words.{value}
 use Rattle.rounding.proofs.Room.{high-less}

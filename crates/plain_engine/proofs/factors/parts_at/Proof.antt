@@ -11,7 +11,7 @@ deferred-annuity-requires : tie.Need-deferred-annuity-requires
 deferred-annuity-requires c κs =
     let s = c .before in
     let a = s .args in
-    workable (a .p) (a .rows .now) (a .m) (s .pre .0) (a .p .retire) (le-of-lt (s .pre .0 .placed .enters)) (le-refl (a .p .retire))
+    workable (a .p) (a .rows .now) (a .m) (s .pre .0) (a .p .retire) (le-of-lt (s .pre .0 .in-range .enters)) (le-refl (a .p .retire))
 
 of-age-requires : tie.Need-of-age-requires
 of-age-requires c κs =
@@ -22,7 +22,7 @@ of-age-requires-2 : tie.Need-of-age-requires-2
 of-age-requires-2 c κs =
     let s = c .before .before .before .before .before .before in
     let a = s .args in
-    in-table (a .p) (a .rows .now) (a .m) (s .pre .0) (a .m .entry) (le-refl (a .m .entry)) (le-of-lt (s .pre .0 .placed .enters))
+    in-table (a .p) (a .rows .now) (a .m) (s .pre .0) (a .m .entry) (le-refl (a .m .entry)) (le-of-lt (s .pre .0 .in-range .enters))
 
 returns : tie.Need-returns
 unfolding partsAt
@@ -32,7 +32,7 @@ returns c =
     let s = early .before .before .before .before .before in
     let G-is = early .before .before .before .deferred-annuity .ensures .upto in
     let here = early .of-age .ensures ∙ G-is (s .args .k) (in-table (s .args .p) (s .args .rows .now) (s .args .m) (s .pre .0) (s .args .k) (s .pre .1) (s .pre .2) .0) (s .pre .2) in
-    let entry = late .of-age2 .ensures ∙ G-is (s .args .m .entry) (s .pre .0 .placed .grown) (le-of-lt (s .pre .0 .placed .enters)) in
+    let entry = late .of-age2 .ensures ∙ G-is (s .args .m .entry) (s .pre .0 .in-range .grown) (le-of-lt (s .pre .0 .in-range .enters)) in
     λ i. record { benefit = early .before .before .accrued-benefit .ensures i; deferred = here i; entered = entry i; earned = c .before .before .earned .ensures i; added = c .before .added .ensures i; divisor = c .divisor .ensures i }
 
 pub parts-at-spec : {M : Type 1} → statement M

@@ -46,7 +46,7 @@ career-requires c κs =
     let first = all-paid (a .p .average) (a .m .entry) (a .k) e (s .pre .4) in
     let ages = paid-ages (s .pre .0) (s .pre .1) (a .k) (s .pre .2) (s .pre .3) (s .pre .4) in
     let most = weights-most (a .rows .now) (a .first) (a .k) (ages .low) (ages .le) (ages .high) (ranges .table) in
-    let scale = c .before .before .before .wide .ensures in (
+    let scale = c .before .before .before .word .ensures in (
       ranges .head .pay-unit (not-flat (a .p .formula) e flat-career),
       s .pre .1 .paid,
       omega (arith, s .pre .5, most, ages .low, ages .high),
@@ -71,7 +71,7 @@ final-average-requires c κs =
     let n = last-paid (a .p .average) (a .m .entry) (a .k) e (s .pre .4) in
     let ages = paid-ages (s .pre .0) (s .pre .1) (a .k) (s .pre .2) (s .pre .3) (s .pre .4) in
     let most = weights-most (a .rows .now) (a .first) (a .k) (ages .low) (ages .le) (ages .high) (ranges .table) in
-    let scale = c .before .before .before .wide .ensures in (
+    let scale = c .before .before .before .word .ensures in (
       ranges .head .pay-unit (not-flat (a .p .formula) e flat-final),
       years-most (s .pre .0) (s .pre .1) (a .k) (s .pre .3),
       s .pre .1 .paid,
@@ -95,7 +95,7 @@ returns-3 c =
     let e = sym (c .before .before .before .formula-of .ensures) ∙ c .before .enum-told2 .given .1 in
     let total = s .pre .5 ∙ ap (λ (x : ℕ). summed (weight (a .rows .now)) x (a .k - x)) (all-paid (a .p .average) (a .m .entry) (a .k) e (s .pre .4)) in
     c .career .ensures
-    ∙ (λ i. nearest (a .p .unit * (a .m .salary * total i)) (10000 * c .before .before .before .before .wide .ensures i))
+    ∙ (λ i. nearest (a .p .unit * (a .m .salary * total i)) (10000 * c .before .before .before .before .word .ensures i))
     ∙ sym (career-benefit (a .p) (a .rows .now) (a .m) (now-some (s .pre .0) (s .pre .1)) (a .k) (c .before .before .before .before .before .before .if1 .left) e)
 
 returns-4 : tie.Need-returns-4
@@ -111,7 +111,7 @@ returns-4 c =
     let W = weight (a .rows .now) in
     let total = s .pre .5 ∙ ap (λ (x : ℕ). summed W x (a .k - a .first)) first in
     c .final-average .ensures
-    ∙ (λ i. nearest (a .p .unit * (a .k - a .m .entry) * (a .m .salary * total i)) (10000 * ((a .k - a .first) * c .before .before .before .before .wide .ensures i)))
+    ∙ (λ i. nearest (a .p .unit * (a .k - a .m .entry) * (a .m .salary * total i)) (10000 * ((a .k - a .first) * c .before .before .before .before .word .ensures i)))
     ∙ ap (λ (n : ℕ). nearest (a .p .unit * (a .k - a .m .entry) * (a .m .salary * summed W (a .k - n) n)) (10000 * (n * W (a .m .age)))) n
     ∙ sym (final-benefit (a .p) (a .rows .now) (a .m) (now-some (s .pre .0) (s .pre .1)) (a .k) (c .before .before .before .before .before .before .if1 .left) e (n-is .some))
 

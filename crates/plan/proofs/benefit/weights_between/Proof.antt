@@ -23,14 +23,14 @@ loop-holds c =
     (le-refl a, c .pre .2, rw none)
 
 -- a turn adds the weight of its age
-added : (c : tie.After-wide Inv-loop μ-loop) → let l = c .before .before .before .loop in let a = c .before .before .before .before .args in
-    l .sum + c .wide .result ≡ summed (weight (a .rows .now)) (a .a) (l .k + 1 - a .a)
+added : (c : tie.After-word Inv-loop μ-loop) → let l = c .before .before .before .loop in let a = c .before .before .before .before .args in
+    l .sum + c .word .result ≡ summed (weight (a .rows .now)) (a .a) (l .k + 1 - a .a)
 added c =
     let l = c .before .before .before .loop in
     let a = c .before .before .before .before .args in
     let more : l .k + 1 - a .a ≡ l .k - a .a + 1 = omega (arith, l .inv .0) in
     let here : a .a + (l .k - a .a) ≡ l .k = omega (arith, l .inv .0) in
-    rw more ((λ i. l .inv .2 i + c .wide .ensures i) ∙ sym (summed-more (weight (a .rows .now)) (a .a) (l .k - a .a) ∙ rw here))
+    rw more ((λ i. l .inv .2 i + c .word .ensures i) ∙ sym (summed-more (weight (a .rows .now)) (a .a) (l .k - a .a) ∙ rw here))
 
 add-sum : tie.Need-add-sum Inv-loop μ-loop
 add-sum c =

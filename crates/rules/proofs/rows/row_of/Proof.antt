@@ -6,10 +6,10 @@ use Rattle.rules.proofs.rows.row_of.Tie as tie
 returns : tie.Need-returns
 returns c =
     λ i. record {
-      death = c .before .before .before .wide .ensures i;
-      withdrawal = c .before .before .wide2 .ensures i;
-      disability = c .before .wide3 .ensures i;
-      weight = c .wide4 .ensures i;
+      death = c .before .before .before .word .ensures i;
+      withdrawal = c .before .before .word2 .ensures i;
+      disability = c .before .word3 .ensures i;
+      weight = c .word4 .ensures i;
     }
 
 pub row-of-spec : {M : Type 1} → statement M

@@ -1,9 +1,9 @@
--- `test_annuity_factors::is_case` meets its contract.
+-- `test_annuity_factors::is_question` meets its contract.
 use borrow.Author.Needs.{needs}
 use borrow.Author.Tests.{ltb-false}
 use native.Mathlib.Omega.{arith}
-use Rattle.test_annuity_factors.proofs.is_case.Statement.{statement}
-use Rattle.test_annuity_factors.proofs.is_case.Tie as tie
+use Rattle.test_annuity_factors.proofs.is_question.Statement.{statement}
+use Rattle.test_annuity_factors.proofs.is_question.Tie as tie
 
 returns-2 : tie.Need-returns-2
 returns-2 c e =
@@ -17,5 +17,5 @@ returns-2 c e =
       payments = omega (arith, ltb-false);
     }
 
-pub is-case-spec : {M : Type 1} → statement M
-is-case-spec = tie.close (tie.spec (λ c e. search needs) (search needs) returns-2)
+pub is-question-spec : {M : Type 1} → statement M
+is-question-spec = tie.close (tie.spec (λ c e. search needs) (search needs) returns-2)
