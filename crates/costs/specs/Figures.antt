@@ -54,8 +54,8 @@ ceiling-member salary = record { id = 7; entry = 30; age = 40; salary = salary }
 abbrev ceiling-benefit : Ratio
 ceiling-benefit = exactBenefit ceiling-plan short (ceiling-member 66666667) Final 60
 
-unfoldable pub figures : List Figure
-figures =
+unfoldable pub member-figures : List Figure
+member-figures =
     factors
     ++ (planRefusal short-plan (shortWith crowded) is 0)
     ∷ (N short-setting AB 64 is 9091)
@@ -87,6 +87,6 @@ figures =
     ∷ (loneRefusal ceiling-plan short (ceiling-member 66666668) is 25)
     ∷ []
 
-pub figures-are : all-are figures ≡ true
-unfolding figures factors rates short able serves leaves stays staying nearest carried step A pension G T Z _over_ whole _⊕_ _⊗_ inverse summed formulaOf pay pays exactBenefit B PV cost N L loneRefusal planRefusal headRules rowsRefusal rowRules memberRefusal fieldRules benefitRules
+pub figures-are : all-are member-figures ≡ true
+unfolding member-figures factors rates short able serves leaves stays staying nearest carried step A pension G T Z _over_ whole _⊕_ _⊗_ inverse summed formulaOf pay pays exactBenefit B PV cost N L loneRefusal planRefusal headRules rowsRefusal rowRules memberRefusal fieldRules benefitRules
 figures-are = refl

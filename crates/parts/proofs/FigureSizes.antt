@@ -57,7 +57,7 @@ percent-small most g w z covers top least =
 
 -- ---- the figures of an accepted member
 -- the ceiling of a benefit, and 71 times that for the others; a normal cost by CP grows with the pay, but the pay annuity counts the later, larger pay with the same staying and discount as the pension
-pub record Small (f : Figures) : Type 0 where
+pub record SmallFigures (f : Figures) : Type 0 where
   pub benefit : f .benefit ≤ 100000000
   pub value : f .value ≤ 7100000000
   pub cost : f .cost ≤ 7100000050
@@ -113,7 +113,7 @@ module _ (p : Plan) (rows : List (List ℕ)) (m : Member) (accepted : AcceptedMe
       let weighty = sound p rows m accepted .weighty in
       omega (arith, percent-small (B p rows m r) (G b y) (weight rows k) (Z b y r) (covers b y k to heavy weighty (G-small p rows m accepted k) (k - y) y (omega arith) (omega arith)) heavy (pay-least p rows m accepted), accepted .capped)
 
-  pub figures-small : Small (figures p rows m)
+  pub figures-small : SmallFigures (figures p rows m)
   unfolding figures figuresAt N
   figures-small =
       record {

@@ -22,7 +22,7 @@ use Rattle.rules.proofs.RuleLaws.{all-kept}
 use Rattle.acceptance.proofs.Facts.{plan-facts, member-facts}
 use Rattle.costs.specs.declared.Figures.{Figures}
 use Rattle.costs.specs.Valuation.{figures}
-use Rattle.parts.proofs.FigureSizes.{Small, figures-small}
+use Rattle.parts.proofs.FigureSizes.{SmallFigures, figures-small}
 use Rattle.walk.specs.Kept.{nobody, idBefore}
 use Rattle.walk.proofs.Accepted.{accepted-keeps}
 use Rattle.casefile.specs.Answers.{acceptingOf}
@@ -81,7 +81,7 @@ printed-amounts-fit s c accepted =
     let members = c .members in
     let head = plan-facts p rows (rules .plan) .head in
     let kept : (j : ℕ) → j < length members → AcceptedMember p rows (getD members j nobody) = λ j h. member-facts p rows (idBefore members j) (getD members j nobody) (rules .plan) (rules .member j h) in
-    let small : (j : ℕ) → j < length members → Small (figures p rows (getD members j nobody)) = λ j h. figures-small p rows (getD members j nobody) (kept j h) in
+    let small : (j : ℕ) → j < length members → SmallFigures (figures p rows (getD members j nobody)) = λ j h. figures-small p rows (getD members j nobody) (kept j h) in
     let value = total-small p rows (λ f. f .value) 7100000000 members (λ j h. small j h .value) in
     let cost = total-small p rows (λ f. f .cost) 7100000050 members (λ j h. small j h .cost) in
     let liability = total-small p rows (λ f. f .liability) 7100000000 members (λ j h. small j h .liability) in

@@ -26,14 +26,14 @@ unfolding wholeNumber digits
 whole-more n h = rw (width-more n h)
 
 -- that s writes n, in w digits and one at most
-record Writes (w n : ℕ) (s : List ℕ) : Type 0 where
+record DigitsOf (w n : ℕ) (s : List ℕ) : Type 0 where
   some : 1 ≤ length s
   most : length s ≤ suc w
   all : allDigits s ≡ true
   reads : number 0 s ≡ n
   first : 0 < n → getD s 0 0 ≡ 48 → ⊥
 
-writes-one : (w n : ℕ) → n < 10 → Writes w n (wholeNumber n)
+writes-one : (w n : ℕ) → n < 10 → DigitsOf w n (wholeNumber n)
 writes-one w n h =
     rw (whole-one n h)
     (record {
@@ -44,7 +44,7 @@ writes-one w n h =
       first = λ some e. omega arith;
     })
 
-writes-more : (w n : ℕ) → 10 ≤ n → Writes w (n / 10) (wholeNumber (n / 10)) → Writes (suc w) n (wholeNumber n)
+writes-more : (w n : ℕ) → 10 ≤ n → DigitsOf w (n / 10) (wholeNumber (n / 10)) → DigitsOf (suc w) n (wholeNumber n)
 writes-more w n h less =
     let s = wholeNumber (n / 10) in
     let b = 48 + n % 10 in
@@ -59,11 +59,11 @@ writes-more w n h less =
       first = λ some e. less .first (omega arith) (sym begins ∙ e);
     })
 
-writes : (w n : ℕ) → n < 10 ^ suc w → Writes w n (wholeNumber n)
+writes : (w n : ℕ) → n < 10 ^ suc w → DigitsOf w n (wholeNumber n)
 writes zero n h = writes-one zero n (omega arith)
 writes (suc w) n h = let tens = pow-suc 10 (suc w) in pick (ltb n 10) refl (writes w (n / 10) (omega arith))
   where
-    pick : (t : Bool) → ltb n 10 ≡ t → Writes w (n / 10) (wholeNumber (n / 10)) → Writes (suc w) n (wholeNumber n)
+    pick : (t : Bool) → ltb n 10 ≡ t → DigitsOf w (n / 10) (wholeNumber (n / 10)) → DigitsOf (suc w) n (wholeNumber n)
     pick true e less = writes-one (suc w) n (ltb-true n 10 e)
     pick false e less = writes-more w n (ltb-false n 10 e) less
 

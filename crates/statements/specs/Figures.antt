@@ -19,7 +19,7 @@ use Rattle.rules.specs.Table.{rowsRefusal, rowRules}
 use Rattle.acceptance.specs.Acceptance.{loneRefusal, planRefusal, memberRefusal, fieldRules, benefitRules}
 use Rattle.costs.specs.Costs.{PV, cost, N, L}
 use Rattle.costs.specs.Valuation.{methodOf, figuresAt, figures}
-use Rattle.costs.specs.Figures.{short-plan, short-member, figures as member-figures}
+use Rattle.costs.specs.Figures.{short-plan, short-member, member-figures}
 use Rattle.fields.specs.Text.{bytes}
 use Rattle.printing.specs.Amounts.{digits, width, wholeNumber, amount, signedAmount}
 use Rattle.printing.specs.Lines.{fields, amountsLine, signedLine}

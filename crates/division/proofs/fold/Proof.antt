@@ -11,4 +11,4 @@ add-t6 c =
     omega (arith, quotient-fits (a .q + 1) (a .d) (a .q * a .d + a .x) (omega arith) (c .before .pre .1))
 
 pub fold-spec : {M : Type 1} → statement M
-fold-spec = tie.close (tie.spec add-t6 (omega arith) (omega arith))
+fold-spec = tie.close (tie.spec add-t6 (λ c. omega arith) (λ c. omega arith))
