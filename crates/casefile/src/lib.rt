@@ -9,6 +9,7 @@ use members::member_lines;
 use plan::MOST_MEMBERS;
 use plan::Members;
 use plan::Plan;
+use plan::TERMS;
 use plan::Terms;
 use rates::AGES;
 use rates::Rows;
@@ -40,7 +41,7 @@ fn walk_lines(case: &[u8], ranges: bool, rows: &mut Rows, members: &mut Members)
     if 65_536 < case.len() {
         return Walked::Refused(TOO_LARGE, 0);
     }
-    let mut terms = [0u64; 8];
+    let mut terms = [0u64; TERMS];
     match head_lines(case, ranges, &mut terms) {
         Stretch::Done(line, at) => {
             walk_table(from(case, at), line, ranges, &terms, rows, members)

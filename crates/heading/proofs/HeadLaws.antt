@@ -13,7 +13,7 @@ use Rattle.fields.specs.declared.lines.Line.the-variants.{Good, Wrong, Cut}
 use Rattle.fields.specs.Split.{uptoOf, pastOf}
 use Rattle.fields.specs.Values.{Values, Held}
 use Rattle.fields.proofs.AnswerLaws.{is-good, is-wrong, is-cut, Answers}
-use Rattle.rules.specs.Heading.{termRule}
+use Rattle.rules.specs.Heading.{termRules, termRule}
 use Rattle.rules.proofs.TermLaws.{only-before}
 use Rattle.walk.specs.Outcome.{refusal, settled}
 use Rattle.walk.specs.Terms.{termForms, termForm, termRefusal}
@@ -25,25 +25,26 @@ use Rattle.stretches.specs.Heads.{headed}
 use Rattle.stretches.proofs.StretchLaws.{line-cut, line-wrong, line-refused, line-passed, next-rest, next-within}
 use Rattle.heading.specs.Stretch.{HeadDone}
 
-eight : length termForms ≡ 8
+-- a form and a rule for each term
+as-many : length termForms ≡ length termRules
 unfolding termForms
-eight = refl
+as-many = refl
 
 -- k terms are read, the next line is `line`, and it begins at place `at`
 pub record TermsRead (ranges : Bool) (s terms : List ℕ) (line at k : ℕ) : Type 0 where
-  pub size : length terms ≡ 8
-  pub few : k ≤ 8
+  pub size : length terms ≡ length termRules
+  pub few : k ≤ length termRules
   pub place : line ≡ k + 1
   pub within : at ≤ length s
   pub kept : ranges ≡ true → Each termRefusal (take k terms)
   pub way : walkFrom ranges 1 start s ≡ walkFrom ranges line (afterTerm (headed (take k terms))) (drop at s)
 
-pub terms-none : (ranges : Bool) (s terms : List ℕ) → length terms ≡ 8 → TermsRead ranges s terms 1 0 0
+pub terms-none : (ranges : Bool) (s terms : List ℕ) → length terms ≡ length termRules → TermsRead ranges s terms 1 0 0
 unfolding termForms
 terms-none ranges s terms size =
     record { size = size; few = omega arith; place = refl; within = omega arith; kept = λ on. tt; way = refl }
 
-module _ {ranges : Bool} {s terms : List ℕ} {line at k : ℕ} (t : TermsRead ranges s terms line at k) (more : k < 8) (values : List ℕ) {rest : List ℕ} (cut : rest ≡ drop at s) {r : Line} (given : Answers (termForm k) rest r (Held (termForm k (uptoOf 10 rest)) 0 values)) where
+module _ {ranges : Bool} {s terms : List ℕ} {line at k : ℕ} (t : TermsRead ranges s terms line at k) (more : k < length termRules) (values : List ℕ) {rest : List ℕ} (cut : rest ≡ drop at s) {r : Line} (given : Answers (termForm k) rest r (Held (termForm k (uptoOf 10 rest)) 0 values)) where
   read : Answers (termForm k) (drop at s) r (Held (termForm k (uptoOf 10 (drop at s))) 0 values)
   read = rw cut at given
 
@@ -52,7 +53,7 @@ module _ {ranges : Bool} {s terms : List ℕ} {line at k : ℕ} (t : TermsRead r
 
   due : walkFrom ranges 1 start s ≡ walkFrom ranges line (heading (headed (take k terms))) (drop at s)
   due =
-      t .way ∙ simp (ne-eqb (length (take k terms)) (length termForms) (λ e. omega (arith, count, eight)))
+      t .way ∙ simp (ne-eqb (length (take k terms)) (length termForms) (λ e. omega (arith, count, as-many)))
 
   pub terms-cut : r ≡ Cut → walkFrom ranges 1 start s ≡ refusal 2 line
   terms-cut is = due ∙ line-cut ranges line (heading (headed (take k terms))) (drop at s) (is-cut (termForm k) (drop at s) (read .0) is)
@@ -94,12 +95,12 @@ module _ {ranges : Bool} {s terms : List ℕ} {line at k : ℕ} (t : TermsRead r
         }
 
 -- all are read
-pub terms-done : {ranges : Bool} {s terms : List ℕ} {line at k : ℕ} (t : TermsRead ranges s terms line at k) → 8 ≤ k → HeadDone ranges s line at terms
+pub terms-done : {ranges : Bool} {s terms : List ℕ} {line at k : ℕ} (t : TermsRead ranges s terms line at k) → length termRules ≤ k → HeadDone ranges s line at terms
 terms-done {ranges} {s} {terms} {line} {at} {k} t all =
     let whole : take k terms ≡ terms = take-all k terms (omega (arith, t .size)) in
     record {
-      good = record { size = t .size ∙ sym eight; kept = λ on. rw (← whole) (t .kept on) };
-      place = omega (arith, t .place, t .few, eight);
+      good = record { size = t .size ∙ sym as-many; kept = λ on. rw (← whole) (t .kept on) };
+      place = omega (arith, t .place, t .few, as-many);
       within = t .within;
-      way = t .way ∙ rw whole (simp (eq-eqb (length terms) (length termForms) (t .size ∙ sym eight)));
+      way = t .way ∙ rw whole (simp (eq-eqb (length terms) (length termForms) (t .size ∙ sym as-many)));
     }

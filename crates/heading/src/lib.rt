@@ -6,6 +6,7 @@ use fields::lines::unread;
 use fields::text::from;
 use fields::text::same;
 use fields::text::seek;
+use plan::TERMS;
 use plan::Terms;
 use rules::refusals::CUT_OFF;
 use rules::refusals::PLAN_FORM;
@@ -117,12 +118,12 @@ pub fn head_lines(s: &[u8], ranges: bool, terms: &mut Terms) -> Stretch
     ensures { λ r. ⌜ HeadIs ranges (now (s .entry)) r (now (terms .exit)) ⌝ }
 {
     // Nothing that the caller left there is taken for a term.
-    *terms = [0u64; 8];
+    *terms = [0u64; TERMS];
     let mut values = [0u64; 5];
     let mut line: u64 = 1;
     let mut at = 0;
     let mut k = 0;
-    while k < 8 {
+    while k < TERMS {
         match term_line(from(s, at), k, &mut values) {
             Line::Good(e) => {
                 let v = values[0];

@@ -7,6 +7,7 @@ use costs::Valuation;
 use fitting::Answer;
 use plan::MOST_MEMBERS;
 use plan::Member;
+use plan::Terms;
 use rates::AGES;
 use rates::Rows;
 use rules::terms::plan_from;
@@ -117,7 +118,7 @@ pub extern "C" fn kuyeshan_refusal_line(
 // liability go to `figures`. A refusal leaves `figures` as they were; its line would be 0.
 #[no_mangle]
 pub extern "C" fn kuyeshan_value_member(
-    plan: &[u64; 8],
+    plan: &Terms,
     rows: &Rows,
     member: &[u64; 4],
     figures: &mut [u64; 4],

@@ -32,8 +32,10 @@ pub struct Plan {
     pub years: u64,
 }
 
-// The terms in the order of the heading's lines (rule 2.1).
-pub type Terms = [u64; 8];
+// Rule 2.1: so many terms has a plan, and their values in the order of the heading's lines.
+pub const TERMS: usize = 8;
+
+pub type Terms = [u64; TERMS];
 
 pub struct Member {
     pub id: u64,

@@ -48,23 +48,23 @@ ruled-all (rule ∷ rules) before (v ∷ t) h = ap suc (ruled-all rules (before 
 abbrev pub termsFrom : List ℕ → ℕ → ℕ
 termsFrom t k = firstOf (drop k (ruled termRules [] t))
 
-module _ (t : List ℕ) (size : length t ≡ 8) where
-  all : length (ruled termRules [] t) ≡ 8
+module _ (t : List ℕ) (size : length t ≡ length termRules) where
+  all : length (ruled termRules [] t) ≡ length termRules
   all = ruled-all termRules [] t (omega arith) ∙ size
 
   module _ (k : ℕ) {n : ℕ} (here : n ≡ termRule k t (getD t k 0)) where
-    unfolds : k < 8 → termsFrom t k ≡ firstOf (n ∷ drop (k + 1) (ruled termRules [] t))
+    unfolds : k < length termRules → termsFrom t k ≡ firstOf (n ∷ drop (k + 1) (ruled termRules [] t))
     unfolds h =
         let next : suc k ≡ k + 1 = omega arith in
         let rule = ruled-at termRules [] t k h (omega arith) ∙ only-before k t (getD t k 0) ∙ sym here in
         ap firstOf (drop-cons (ruled termRules [] t) k 0 (omega (arith, all)))
         ∙ (λ i. firstOf (rule i ∷ drop (next i) (ruled termRules [] t)))
 
-    pub terms-refused : k < 8 → (n ≡ 0 → ⊥) → n ≡ termsFrom t k
+    pub terms-refused : k < length termRules → (n ≡ 0 → ⊥) → n ≡ termsFrom t k
     terms-refused h some = sym (unfolds h ∙ first-refuses n (drop (k + 1) (ruled termRules [] t)) some)
 
-    pub terms-passed : k < 8 → n ≡ 0 → termsFrom t k ≡ termsFrom t (k + 1)
+    pub terms-passed : k < length termRules → n ≡ 0 → termsFrom t k ≡ termsFrom t (k + 1)
     terms-passed h none = unfolds h ∙ first-passes n (drop (k + 1) (ruled termRules [] t)) none
 
-  pub terms-done : (k : ℕ) → 8 ≤ k → termsFrom t k ≡ 0
+  pub terms-done : (k : ℕ) → length termRules ≤ k → termsFrom t k ≡ 0
   terms-done k h = rw (drop-of-length-le (ruled termRules [] t) {i = k} (omega (arith, all)))

@@ -5,6 +5,7 @@ use crate::refusals::WRONG_AVERAGE;
 use crate::unless;
 use crate::unless_between;
 use plan::Plan;
+use plan::TERMS;
 use plan::Terms;
 ghost use mathlib.Core.Path.{_≡_};
 ghost use mathlib.Core.List.{[]};
@@ -61,11 +62,11 @@ pub fn head_refusal(p: Plan) -> u64
 
 // The first refusal of the terms.
 fn terms_refusal(terms: &Terms) -> u64
-    requires { ⌜ length (now terms) ≡ 8 ⌝ }
+    requires { ⌜ length (now terms) ≡ length termRules ⌝ }
     ensures { λ r. ⌜ r ≡ firstOf (ruled termRules [] (now (terms .entry))) ⌝ }
 {
     let mut k: usize = 0;
-    while k < 8 {
+    while k < TERMS {
         let refusal = term_rule(k, terms, terms[k]);
         if refusal != 0 {
             return refusal;

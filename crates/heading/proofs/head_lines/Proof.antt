@@ -1,7 +1,9 @@
 -- `heading::head_lines` meets its contract. The loop's invariant: k terms are read, and the walk goes on from here.
 use Prim.Native.Nat.{_-_}
 use native.Mathlib.Omega.{arith}
+use lib.ListN.{length}
 use borrow.Author.Needs.{needs}
+use Rattle.rules.specs.Heading.{termRules}
 use Rattle.heading.specs.Stretch.{HeadIs}
 use Rattle.heading.proofs.HeadLaws.{TermsRead, terms-none, terms-cut, terms-wrong, terms-refused, terms-place, terms-next, terms-done}
 use Rattle.heading.proofs.head_lines.Statement.{statement}
@@ -11,7 +13,7 @@ abbrev Inv-loop : tie.InvT-loop
 Inv-loop s ranges terms₀ values₀ line₀ at₀ k₀ terms values line at k = TermsRead ranges s terms line at k
 
 abbrev μ-loop : tie.MeasureT-loop
-μ-loop s ranges terms₀ values₀ line₀ at₀ k₀ terms values line at k = 8 - k
+μ-loop s ranges terms₀ values₀ line₀ at₀ k₀ terms values line at k = length termRules - k
 
 pub head-lines-spec : {M : Type 1} → statement M
 unfolding HeadIs

@@ -2,16 +2,18 @@
 use mathlib.Core.Path.{_≡_, refl, sym, _∙_}
 use Prim.Native.Nat.{_-_, _≤_}
 use native.Mathlib.Omega.{arith}
+use lib.ListN.{length}
 use borrow.Author.Needs.{needs}
+use Rattle.rules.specs.Heading.{termRules}
 use Rattle.rules.proofs.TermLaws.{termsFrom, terms-refused, terms-passed, terms-done}
 use Rattle.rules.proofs.terms.terms_refusal.Statement.{statement}
 use Rattle.rules.proofs.terms.terms_refusal.Tie as tie
 
 abbrev Inv-loop : tie.InvT-loop
-Inv-loop terms k₀ k = (k ≤ 8) × (termsFrom terms 0 ≡ termsFrom terms k)
+Inv-loop terms k₀ k = (k ≤ length termRules) × (termsFrom terms 0 ≡ termsFrom terms k)
 
 abbrev μ-loop : tie.MeasureT-loop
-μ-loop terms k₀ k = 8 - k
+μ-loop terms k₀ k = length termRules - k
 
 returns : tie.Need-returns Inv-loop μ-loop
 returns c =
