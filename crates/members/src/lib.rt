@@ -1,4 +1,5 @@
 // The lines after the rows, RULES section 4: the members and the end.
+use acceptance::member_refusal;
 use fields::lines::Line;
 use fields::lines::Read;
 use fields::lines::four_values;
@@ -100,12 +101,12 @@ fn member_from(values: &Read) -> Member
 }
 
 // The range rules of a member where the ranges are settled: a number, 0 for none.
-fn member_refusal(ranges: bool, p: Plan, rows: &Rows, before: u64, m: Member) -> u64
+fn person_refusal(ranges: bool, p: Plan, rows: &Rows, before: u64, m: Member) -> u64
     requires { ⌜ (ranges ≡ true → planRefusal p (now rows) ≡ 0) ⌝ }
     ensures { λ r. ⌜ r ≡ settled ranges (memberRefusal p (now (rows .entry)) before m) ⌝ }
 {
     if ranges {
-        acceptance::member_refusal(p, rows, before, m)
+        member_refusal(p, rows, before, m)
     } else {
         0
     }
@@ -157,7 +158,7 @@ pub fn member_lines(
         match tail_line(from(s, at), count == MOST_MEMBERS as u64, &mut values) {
             Kind::Person(e) => {
                 let m = member_from(&values);
-                let refusal = member_refusal(ranges, p, rows, before, m);
+                let refusal = person_refusal(ranges, p, rows, before, m);
                 if refusal != 0 {
                     return Count::Refused(refusal, line);
                 }
