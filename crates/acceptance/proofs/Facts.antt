@@ -17,7 +17,7 @@ use Rattle.rules.specs.Heading.{headRules}
 use Rattle.rules.specs.Table.{rowRules, rowOf, weightBefore, rowsRefusal}
 use Rattle.acceptance.specs.Acceptance.{planRefusal, fieldRules, benefitRules, memberRefusal, loneRefusal}
 use Rattle.plan.specs.Benefit.{B}
-use Rattle.plan.specs.Ranges.{HeadRanges, PlanRanges, InRange, AcceptedMember}
+use Rattle.plan.specs.Ranges.{HeadRanges, PlanRanges, InRange, MemberRanges}
 use Rattle.plan.proofs.RiseLaws.{never-falls, climbing}
 use Rattle.acceptance.specs.Rising.{Accepted-Never-Falls}
 use Rattle.rules.proofs.RuleLaws.{all-kept, refusal-of-both, both-refusals, kept, both-true, between-true}
@@ -122,7 +122,7 @@ range-facts p before m e =
       paid = leb-true _ _ (kept (leb (m .salary) 100000000) 23 (k .1 .1 .1 .0));
     }
 
-pub member-facts : (p : Plan) (rows : List (List ℕ)) (before : ℕ) (m : Member) → planRefusal p rows ≡ 0 → memberRefusal p rows before m ≡ 0 → AcceptedMember p rows m
+pub member-facts : (p : Plan) (rows : List (List ℕ)) (before : ℕ) (m : Member) → planRefusal p rows ≡ 0 → memberRefusal p rows before m ≡ 0 → MemberRanges p rows m
 unfolding memberRefusal benefitRules
 member-facts p rows before m plan e =
     let halves = both-refusals (fieldRules p before m) (benefitRules p rows m) e in
@@ -134,7 +134,7 @@ member-facts p rows before m plan e =
     }
 
 -- a lone member, after its plan
-pub lone-facts : (p : Plan) (rows : List (List ℕ)) (m : Member) → loneRefusal p rows m ≡ 0 → AcceptedMember p rows m
+pub lone-facts : (p : Plan) (rows : List (List ℕ)) (m : Member) → loneRefusal p rows m ≡ 0 → MemberRanges p rows m
 unfolding loneRefusal
 lone-facts p rows m e =
     let both = all-kept (planRefusal p rows ∷ memberRefusal p rows 0 m ∷ []) e in

@@ -24,7 +24,7 @@ planRefusal p rows = firstOf (firstOf (headRules p) ∷ rowsRefusal rows firstAg
 unfoldable pub fieldRules : Plan → (before : ℕ) → Member → List ℕ
 fieldRules p before m =
     unless (between 1 999999999 (m .id) && ltb before (m .id)) wrongId
-    ∷ unless (leb firstAge (m .entry) && ltb (m .entry) (p .retire)) wrongEntry
+    ∷ unless (leb 15 (m .entry) && ltb (m .entry) (p .retire)) wrongEntry
     ∷ unless (between (m .entry) (p .retire) (m .age)) wrongAge
     ∷ unless (leb (m .salary) 100000000) wrongSalary
     ∷ []

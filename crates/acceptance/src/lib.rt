@@ -5,7 +5,6 @@
 use plan::Member;
 use plan::Plan;
 use plan::benefit::accrued_benefit;
-use rates::FIRST_AGE;
 use rates::Rows;
 use rules::between;
 use rules::both;
@@ -22,7 +21,6 @@ use rules::unless_between;
 ghost use mathlib.Core.Path.{_≡_};
 ghost use mathlib.Core.Bool.{_&&_};
 ghost use lib.Dec.{leb, ltb};
-ghost use Rattle.rates.specs.Table.{firstAge};
 ghost use Rattle.rules.specs.Refusals.{wrongId, wrongEntry};
 ghost use Rattle.rules.specs.Rules.{firstOf};
 ghost use Rattle.rules.specs.Rules.{unless as Rules·unless, between as Rules·between};
@@ -59,9 +57,9 @@ fn fields_refusal(p: Plan, before: u64, m: Member) -> u64
 }
 
 fn entry_rule(retire: u64, entry: u64) -> u64
-    ensures { λ r. ⌜ r ≡ Rules·unless (leb firstAge entry && ltb entry retire) wrongEntry ⌝ }
+    ensures { λ r. ⌜ r ≡ Rules·unless (leb 15 entry && ltb entry retire) wrongEntry ⌝ }
 {
-    unless(both(FIRST_AGE as u64 <= entry, entry < retire), WRONG_ENTRY)
+    unless(both(15 <= entry, entry < retire), WRONG_ENTRY)
 }
 
 fn id_rule(before: u64, id: u64) -> u64

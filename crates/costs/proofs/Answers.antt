@@ -6,7 +6,7 @@ use borrow.Author.Tests.{eq-eqb, ne-eqb}
 use Rattle.plan.specs.declared.Plan.{Plan}
 use Rattle.plan.specs.declared.Member.{Member}
 use Rattle.acceptance.specs.Acceptance.{loneRefusal}
-use Rattle.plan.specs.Ranges.{AcceptedMember}
+use Rattle.plan.specs.Ranges.{MemberRanges}
 use Rattle.acceptance.proofs.Facts.{member-facts}
 use Rattle.costs.specs.declared.Figures.{Figures}
 use Rattle.costs.specs.declared.Valuation.the-variants.{Valued, Refused}
@@ -24,12 +24,12 @@ module _ (p : Plan) (rows : List (List ℕ)) (m : Member) where
   unfolding valuation
   valued none e = rw e (simp (eq-eqb (loneRefusal p rows m) 0 none))
 
-  own-figures : AcceptedMember p rows m → Limited p rows m (Valued (figures p rows m))
+  own-figures : MemberRanges p rows m → Limited p rows m (Valued (figures p rows m))
   unfolding figures figuresAt
   own-figures accepted =
       limits (settingOf p rows m) (sound p rows m accepted) (methodOf (p .method)) (m .age) (accepted .in-range .past-entry) (accepted .in-range .not-past)
 
-  pub limited : {f : Figures} → AcceptedMember p rows m → f ≡ figures p rows m → Limited p rows m (Valued f)
+  pub limited : {f : Figures} → MemberRanges p rows m → f ≡ figures p rows m → Limited p rows m (Valued f)
   limited accepted e = subst (λ (f : Figures). Limited p rows m (Valued f)) (sym e) (own-figures accepted)
 
 -- ---- demand 3, of every accepted member

@@ -11,7 +11,7 @@ use Rattle.annuity.proofs.Bases.{basis-fair}
 use Rattle.annuity.proofs.Sizes.{G-most, Z-least}
 use Rattle.plan.specs.declared.Plan.{Plan}
 use Rattle.plan.specs.declared.Member.{Member}
-use Rattle.plan.specs.Ranges.{PlanRanges, AcceptedMember}
+use Rattle.plan.specs.Ranges.{PlanRanges, MemberRanges}
 use Rattle.plan.proofs.RiseLaws.{never-falls, climbing}
 use Rattle.costs.specs.Setting.{SoundSetting}
 use Rattle.costs.specs.Valuation.{planBasis, settingOf}
@@ -21,7 +21,7 @@ pub worth-most : (benefit deferred : ℕ) → deferred ≤ 71 * S → nearest (b
 worth-most benefit deferred h =
     omega (arith, nearest-mono (benefit * deferred) (benefit * 71 * S) S (omega arith) (omega (arith, mul-le-mul {n₁ = benefit} {n₂ = benefit} (omega arith) h)), nearest-exact (benefit * 71) S (omega arith))
 
-module _ (p : Plan) (rows : List (List ℕ)) (m : Member) (accepted : AcceptedMember p rows m) where
+module _ (p : Plan) (rows : List (List ℕ)) (m : Member) (accepted : MemberRanges p rows m) where
   pub facts : PlanRanges p rows
   facts = accepted .plan
 

@@ -15,7 +15,7 @@ ghost use lib.ListN.{length};
 ghost use Rattle.rounding.specs.Signed.{integerOf};
 ghost use Rattle.walk.specs.Lines.{mostMembers};
 ghost use Rattle.report.specs.Lines.{planLines, refusalLine};
-ghost use Rattle.report.specs.Worked.{linesIn};
+ghost use Rattle.report.specs.MemberLines.{linesIn};
 ghost use Rattle.fitting.specs.Fitting.{fitting, answer, buffer};
 
 // The answer of an entry that writes: how many bytes, or a refusal's number and line.

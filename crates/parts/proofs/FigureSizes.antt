@@ -19,7 +19,7 @@ use Rattle.plan.specs.declared.Member.{Member}
 use Rattle.plan.specs.declared.Method.{Method}
 use Rattle.plan.specs.declared.Method.the-variants.{AB, BD, BP, CD, CP}
 use Rattle.plan.specs.Benefit.{B}
-use Rattle.plan.specs.Ranges.{PlanRanges, AcceptedMember}
+use Rattle.plan.specs.Ranges.{PlanRanges, MemberRanges}
 use Rattle.costs.specs.declared.Figures.{Figures}
 use Rattle.costs.specs.Costs.{PV, cost, N, L}
 use Rattle.costs.specs.Valuation.{methodOf, planBasis, settingOf, figuresAt, figures}
@@ -63,7 +63,7 @@ pub record SmallFigures (f : Figures) : Type 0 where
   pub cost : f .cost ≤ 7100000050
   pub liability : f .liability ≤ 7100000000
 
-module _ (p : Plan) (rows : List (List ℕ)) (m : Member) (accepted : AcceptedMember p rows m) where
+module _ (p : Plan) (rows : List (List ℕ)) (m : Member) (accepted : MemberRanges p rows m) where
   abbrev b : Basis
   b = planBasis p rows
 

@@ -16,7 +16,7 @@ use Rattle.plan.specs.declared.Plan.{Plan}
 use Rattle.plan.specs.declared.Member.{Member}
 use Rattle.plan.specs.declared.Method.{Method}
 use Rattle.plan.specs.declared.Method.the-variants.{AB, BD, BP, CD, CP}
-use Rattle.plan.specs.Ranges.{AcceptedMember}
+use Rattle.plan.specs.Ranges.{MemberRanges}
 use Rattle.costs.specs.Setting.{Setting}
 use Rattle.costs.specs.Costs.{PV, cost, N, L}
 use Rattle.costs.specs.Valuation.{planBasis, settingOf, figuresAt}
@@ -25,7 +25,7 @@ use Rattle.costs.proofs.RollForward.{M-positive}
 use Rattle.costs.proofs.Limits.{B-most, M-split, W-most}
 use Rattle.costs.proofs.Needs.{facts, sound, G-small, pay-least}
 
-module _ (p : Plan) (rows : List (List ℕ)) (m : Member) (accepted : AcceptedMember p rows m) where
+module _ (p : Plan) (rows : List (List ℕ)) (m : Member) (accepted : MemberRanges p rows m) where
   abbrev c : Setting
   c = settingOf p rows m
 

@@ -11,7 +11,7 @@ use Rattle.plan.specs.declared.Plan.{Plan}
 use Rattle.plan.specs.declared.Member.{Member}
 use Rattle.plan.specs.declared.Method.{Method}
 use Rattle.plan.specs.declared.Method.the-variants.{AB, BD, BP, CD, CP}
-use Rattle.plan.specs.Ranges.{AcceptedMember}
+use Rattle.plan.specs.Ranges.{MemberRanges}
 use Rattle.costs.specs.declared.Figures.{Figures}
 use Rattle.parts.specs.declared.Parts.{Parts}
 use Rattle.costs.specs.Setting.{Setting}
@@ -101,5 +101,5 @@ pub record Gives (p : Plan) (rows : List (List ℕ)) (m : Member) (method : Meth
 
 abbrev pub From-Parts : Type 0
 From-Parts =
-    (p : Plan) (rows : List (List ℕ)) (m : Member) → AcceptedMember p rows m
+    (p : Plan) (rows : List (List ℕ)) (m : Member) → MemberRanges p rows m
     → (method : Method) (k : ℕ) → m .entry ≤ k → k ≤ p .retire → Gives p rows m method k

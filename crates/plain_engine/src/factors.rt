@@ -14,13 +14,13 @@ ghost use lib.ListN.{getD};
 ghost use Rattle.rates.specs.Table.{weight, firstAge};
 ghost use Rattle.annuity.specs.Factors.{T, Z};
 ghost use Rattle.plan.specs.Weights.{summed};
-ghost use Rattle.plan.specs.Ranges.{AcceptedMember};
+ghost use Rattle.plan.specs.Ranges.{MemberRanges};
 ghost use Rattle.costs.specs.Valuation.{settingOf, planBasis};
 ghost use Rattle.parts.specs.Parts.{earned as Parts·earned, added as Parts·added, adds as Parts·adds, divisor as Parts·divisor, partsAt};
 
 // The parts of an accepted member at an age k of its own, by any method.
 pub(crate) fn parts_at(p: Plan, rows: &Rows, m: Member, method: Method, k: usize) -> Parts
-    requires { ⌜ AcceptedMember p (now rows) m × (m .entry ≤ k) × (k ≤ p .retire) ⌝ }
+    requires { ⌜ MemberRanges p (now rows) m × (m .entry ≤ k) × (k ≤ p .retire) ⌝ }
     ensures { λ q. ⌜ q ≡ partsAt (settingOf p (now (rows .entry)) m) k method ⌝ }
 {
     let annuity = annuity::deferred_annuity(*rows, p.retire as usize, p.interest);
@@ -42,7 +42,7 @@ pub(crate) fn parts_at(p: Plan, rows: &Rows, m: Member, method: Method, k: usize
 
 // What is earned by age e, in the method's own measure.
 fn earned(p: Plan, rows: &Rows, m: Member, method: Method, e: usize) -> u64
-    requires { ⌜ AcceptedMember p (now rows) m × (m .entry ≤ e) × (e ≤ p .retire) ⌝ }
+    requires { ⌜ MemberRanges p (now rows) m × (m .entry ≤ e) × (e ≤ p .retire) ⌝ }
     ensures { λ r. ⌜ r ≡ Parts·earned (settingOf p (now (rows .entry)) m) e method ⌝ }
 {
     match method {
@@ -56,7 +56,7 @@ fn earned(p: Plan, rows: &Rows, m: Member, method: Method, e: usize) -> u64
 
 // What the year from age k on adds to what is earned by k: nothing from r on.
 fn added(p: Plan, rows: &Rows, m: Member, method: Method, k: usize, earned: u64) -> u64
-    requires { ⌜ AcceptedMember p (now rows) m × (m .entry ≤ k) × (earned ≡ Parts·earned (settingOf p (now rows) m) k method) ⌝ }
+    requires { ⌜ MemberRanges p (now rows) m × (m .entry ≤ k) × (earned ≡ Parts·earned (settingOf p (now rows) m) k method) ⌝ }
     ensures { λ r. ⌜ r ≡ Parts·added (settingOf p (now (rows .entry)) m) k method ⌝ }
 {
     if p.retire as usize <= k {
@@ -67,7 +67,7 @@ fn added(p: Plan, rows: &Rows, m: Member, method: Method, k: usize, earned: u64)
 
 // The same below r. By AB that is B(k+1) less what is earned, so that B(k) is worked once.
 fn adds(p: Plan, rows: &Rows, m: Member, method: Method, k: usize, earned: u64) -> u64
-    requires { ⌜ AcceptedMember p (now rows) m × (m .entry ≤ k) × (k < p .retire) × (earned ≡ Parts·earned (settingOf p (now rows) m) k method) ⌝ }
+    requires { ⌜ MemberRanges p (now rows) m × (m .entry ≤ k) × (k < p .retire) × (earned ≡ Parts·earned (settingOf p (now rows) m) k method) ⌝ }
     ensures { λ r. ⌜ r ≡ Parts·adds (settingOf p (now (rows .entry)) m) k method ⌝ }
 {
     match method {
@@ -81,7 +81,7 @@ fn adds(p: Plan, rows: &Rows, m: Member, method: Method, k: usize, earned: u64) 
 
 // What N and L are divided by.
 fn divisor(p: Plan, rows: &Rows, m: Member, method: Method) -> u64
-    requires { ⌜ AcceptedMember p (now rows) m ⌝ }
+    requires { ⌜ MemberRanges p (now rows) m ⌝ }
     ensures { λ r. ⌜ r ≡ Parts·divisor (settingOf p (now (rows .entry)) m) method ⌝ }
 {
     match method {
@@ -95,7 +95,7 @@ fn divisor(p: Plan, rows: &Rows, m: Member, method: Method) -> u64
 
 // The weights of the ages from y to e - 1, for an age e of the member.
 fn weights_from_entry(p: Plan, rows: &Rows, m: Member, e: usize) -> u64
-    requires { ⌜ AcceptedMember p (now rows) m × (m .entry ≤ e) × (e ≤ p .retire) ⌝ }
+    requires { ⌜ MemberRanges p (now rows) m × (m .entry ≤ e) × (e ≤ p .retire) ⌝ }
     ensures { λ r. ⌜ r ≡ summed (weight (now (rows .entry))) (m .entry) (e - m .entry) ⌝ }
 {
     weights_between(rows, m.entry, e as u64)
@@ -103,7 +103,7 @@ fn weights_from_entry(p: Plan, rows: &Rows, m: Member, e: usize) -> u64
 
 // T(y,e), for an age e of the member.
 fn working_from_entry(p: Plan, rows: &Rows, m: Member, e: usize) -> u64
-    requires { ⌜ AcceptedMember p (now rows) m × (m .entry ≤ e) × (e ≤ p .retire) ⌝ }
+    requires { ⌜ MemberRanges p (now rows) m × (m .entry ≤ e) × (e ≤ p .retire) ⌝ }
     ensures { λ r. ⌜ r ≡ T (planBasis p (now (rows .entry))) (m .entry) e ⌝ }
 {
     let annuity = annuity::working_annuity(*rows, p.retire as usize, p.interest, e);
@@ -112,7 +112,7 @@ fn working_from_entry(p: Plan, rows: &Rows, m: Member, e: usize) -> u64
 
 // Z(y,e), for an age e of the member.
 fn pay_from_entry(p: Plan, rows: &Rows, m: Member, e: usize) -> u64
-    requires { ⌜ AcceptedMember p (now rows) m × (m .entry ≤ e) × (e ≤ p .retire) ⌝ }
+    requires { ⌜ MemberRanges p (now rows) m × (m .entry ≤ e) × (e ≤ p .retire) ⌝ }
     ensures { λ r. ⌜ r ≡ Z (planBasis p (now (rows .entry))) (m .entry) e ⌝ }
 {
     let annuity = annuity::pay_annuity(*rows, p.retire as usize, p.interest, e);

@@ -12,7 +12,7 @@ use plan::Member;
 use plan::Plan;
 use rates::Rows;
 ghost use mathlib.Core.Path.{_≡_};
-ghost use Rattle.plan.specs.Ranges.{AcceptedMember};
+ghost use Rattle.plan.specs.Ranges.{MemberRanges};
 ghost use Rattle.costs.specs.Valuation.{figures, valuation, Limited};
 
 // Rules 5.5 and 9.11: values a lone member of a plan.
@@ -29,7 +29,7 @@ pub fn value_member(p: Plan, rows: Rows, m: Member) -> Valuation
 
 // The figures of an accepted member at its own age, by the plan's method and by factors of its own.
 pub fn figures_of(p: Plan, rows: Rows, m: Member) -> Figures
-    requires { ⌜ AcceptedMember p rows m ⌝ }
+    requires { ⌜ MemberRanges p rows m ⌝ }
     ensures { λ f. ⌜ f ≡ figures p rows m ⌝ }
 {
     let method = method_of(p.method);

@@ -22,7 +22,7 @@ use Rattle.totals.specs.Totals.{totals, unfunded, supplemental}
 use Rattle.totals.specs.Worked.{figuresIn, membersIn, AreWorked}
 use Rattle.totals.proofs.TotalLaws.{integer-signed}
 use Rattle.report.specs.Lines.{figuresLine, memberLine, memberLines, planLines, printed, refusalLine}
-use Rattle.report.specs.Worked.{linesIn}
+use Rattle.report.specs.MemberLines.{linesIn}
 
 -- ---- the members' lines, one after the other
 module _ (members worked : List (List ℕ)) where

@@ -19,7 +19,7 @@ ghost use Rattle.rounding.specs.Signed.{integerOf};
 ghost use Rattle.walk.specs.Lines.{mostMembers};
 ghost use Rattle.printing.specs.Puts.{Puts};
 ghost use Rattle.report.specs.Lines.{figuresLine, planLines, refusalLine};
-ghost use Rattle.report.specs.Worked.{linesIn};
+ghost use Rattle.report.specs.MemberLines.{linesIn};
 
 // Writes a member's line.
 fn write_member_line(out: &mut [u8], at: usize, id: u64, f: Figures) -> usize

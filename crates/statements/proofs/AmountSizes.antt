@@ -17,7 +17,7 @@ use Rattle.plan.specs.declared.Plan.{Plan}
 use Rattle.plan.specs.declared.Member.{Member}
 use Rattle.rules.specs.Rules.{unless}
 use Rattle.acceptance.specs.Acceptance.{fieldRules, benefitRules, memberRefusal}
-use Rattle.plan.specs.Ranges.{AcceptedMember}
+use Rattle.plan.specs.Ranges.{MemberRanges}
 use Rattle.rules.proofs.RuleLaws.{all-kept}
 use Rattle.acceptance.proofs.Facts.{plan-facts, member-facts}
 use Rattle.costs.specs.declared.Figures.{Figures}
@@ -80,7 +80,7 @@ printed-amounts-fit s c accepted =
     let rows = c .rows in
     let members = c .members in
     let head = plan-facts p rows (rules .plan) .head in
-    let kept : (j : ℕ) → j < length members → AcceptedMember p rows (getD members j nobody) = λ j h. member-facts p rows (idBefore members j) (getD members j nobody) (rules .plan) (rules .member j h) in
+    let kept : (j : ℕ) → j < length members → MemberRanges p rows (getD members j nobody) = λ j h. member-facts p rows (idBefore members j) (getD members j nobody) (rules .plan) (rules .member j h) in
     let small : (j : ℕ) → j < length members → SmallFigures (figures p rows (getD members j nobody)) = λ j h. figures-small p rows (getD members j nobody) (kept j h) in
     let value = total-small p rows (λ f. f .value) 7100000000 members (λ j h. small j h .value) in
     let cost = total-small p rows (λ f. f .cost) 7100000050 members (λ j h. small j h .cost) in

@@ -6,7 +6,7 @@ use lib.ListN.{getD}
 use Rattle.plan.specs.declared.Plan.{Plan}
 use Rattle.plan.specs.declared.Member.{Member}
 use Rattle.acceptance.specs.Acceptance.{planRefusal}
-use Rattle.plan.specs.Ranges.{AcceptedMember}
+use Rattle.plan.specs.Ranges.{MemberRanges}
 use Rattle.costs.specs.declared.Figures.{Figures}
 use Rattle.costs.specs.Valuation.{figures}
 use Rattle.walk.specs.Lines.{mostMembers}
@@ -22,7 +22,7 @@ membersIn a (suc n) = membersIn a n ++ (memberAt a n ∷ [])
 pub record AcceptedMembers (p : Plan) (rows members : List (List ℕ)) (n : ℕ) : Type 0 where
   pub plan : planRefusal p rows ≡ 0
   pub few : n ≤ mostMembers
-  pub member : (j : ℕ) → j < n → AcceptedMember p rows (memberAt members j)
+  pub member : (j : ℕ) → j < n → MemberRanges p rows (memberAt members j)
 
 -- four words as figures; and those at place j of an array
 abbrev pub figuresStored : List ℕ → Figures

@@ -1,7 +1,7 @@
 -- `plain_engine::value_member` meets its contract.
 use mathlib.Core.Path.{_≡_, sym, _∙_}
 use Rattle.acceptance.specs.Acceptance.{loneRefusal}
-use Rattle.plan.specs.Ranges.{AcceptedMember}
+use Rattle.plan.specs.Ranges.{MemberRanges}
 use Rattle.acceptance.proofs.Facts.{lone-facts}
 use Rattle.costs.proofs.Answers.{refused, valued, limited}
 use borrow.Author.Needs.{needs}
@@ -19,7 +19,7 @@ returns c =
 none : (c : tie.After-lone-refusal) → c .lone-refusal .result ≡ 0 → let a = c .before .args in loneRefusal (a .p) (a .rows) (a .m) ≡ 0
 none c e = sym (c .lone-refusal .ensures) ∙ e
 
-accepted : (c : tie.After-lone-refusal) → c .lone-refusal .result ≡ 0 → let a = c .before .args in AcceptedMember (a .p) (a .rows) (a .m)
+accepted : (c : tie.After-lone-refusal) → c .lone-refusal .result ≡ 0 → let a = c .before .args in MemberRanges (a .p) (a .rows) (a .m)
 accepted c e = let a = c .before .args in lone-facts (a .p) (a .rows) (a .m) (none c e)
 
 figures-of-requires : tie.Need-figures-of-requires

@@ -5,7 +5,7 @@ use mathlib.Core.Path.{_≡_, refl}
 use Prim.Native.Nat.{_-_, _*_, _≤_}
 use lib.ListN.{length}
 use Rattle.printing.specs.Puts.{Puts}
-use Rattle.report.specs.Worked.{linesIn}
+use Rattle.report.specs.MemberLines.{linesIn}
 use Rattle.report.proofs.PrintedLaws.{lines-none, line-on}
 use Rattle.report.proofs.write_member_lines.Statement.{statement}
 use Rattle.report.proofs.write_member_lines.Tie as tie
