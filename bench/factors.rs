@@ -25,7 +25,7 @@ pub fn fill(rows: &Rows, r: usize, i: u64, amount: impl Fn(&Row) -> u64, top: us
 }
 
 fn step(row: &Row, works: bool, i: u64, f: u64) -> u64 {
-    nearest(f as u128 * staying(row, works) as u128, 100 * (10_000 + i as u128)) as u64
+    share(f, staying(row, works), 100 * (10_000 + i))
 }
 
 fn staying(row: &Row, works: bool) -> u64 {
@@ -36,7 +36,12 @@ fn staying(row: &Row, works: bool) -> u64 {
     nearest_word(nearest_word(alive * fit, 1_000_000) * remaining, 1_000_000)
 }
 
-pub fn nearest(n: u128, d: u128) -> u128 {
+/// value * part / whole, rounded.
+pub fn share(value: u64, part: u64, whole: u64) -> u64 {
+    nearest(value as u128 * part as u128, whole as u128) as u64
+}
+
+fn nearest(n: u128, d: u128) -> u128 {
     let q = n / d;
     let r = n - q * d;
     q + (r + q % 2 > d - r) as u128

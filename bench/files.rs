@@ -16,7 +16,12 @@ pub fn row(age: usize) -> String {
 
 /// A member of an accepted file.
 pub fn member(j: usize) -> String {
-    format!("member={},{},{},{}.{:02}\n", 100_000_001 + 7 * j, 20 + j % 30, 50 + j % 15, 40_000 + 61 * j, j % 100)
+    member_aged(j, 20 + j % 30, 50 + j % 15)
+}
+
+/// The same with an entry age and an age of the caller's.
+pub fn member_aged(j: usize, entry: usize, age: usize) -> String {
+    format!("member={},{entry},{age},{}.{:02}\n", 100_000_001 + 7 * j, 40_000 + 61 * j, j % 100)
 }
 
 /// Numbers that look random and are the same in each run (splitmix64).

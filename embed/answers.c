@@ -1,50 +1,43 @@
-/* answers: what the library answers to each of many cases. They stand on standard input one after another, a number's
- * little end first, as x86-64 has it:
- *   f   its length and the length of an output buffer, 4 bytes each, then a case file. It prints what reading,
- *       accepting and valuing answer, a line each; then the bytes of the buffer and the 16 after it, which were filled
- *       with FILL before.
- *   m   the plan, the rows and the member, as kuyeshan_value_member takes them. It prints the answer and the figures,
- *       which were filled before with what no figure can be.
- * embed/run builds it; tests/library_answers.py runs it, and holds what it prints to another program. */
+/* answers: what the library answers to each of many cases, which cases.h reads.
+ *   f   It prints what reading and accepting answer, a line each; then, of each export that values it, a line with what it
+ *       answers, the bytes of the buffer and the 16 after it, which were filled with FILL before.
+ *   m   It prints the answer and the figures, which were filled before with what no figure can be.
+ * embed/run builds it; tests/library.py runs it for the tests that hold what it prints to another program. */
 #include <inttypes.h>
 #include <stdio.h>
 #include <string.h>
 
-#include "kuyeshan.h"
+#include "cases.h"
+#include "exports.h"
 
-/* The longest file and the longest buffer that are tried. */
-enum { FILL = 165, AFTER = 16, FILE_ROOM = 1 << 20, ROOM = 70000 };
+enum { FILL = 165, AFTER = 16 };
 
-static uint8_t bytes[FILE_ROOM], out[ROOM + AFTER];
+static uint8_t out[ROOM + AFTER];
 
-static int got(void *into, size_t size) {
-    return fread(into, 1, size, stdin) == size;
+static int values(int export) {
+    uint64_t line = UINT64_MAX, written = UINT64_MAX;
+    memset(out, FILL, sizeof out);
+    uint64_t number = exports[export].value(bytes, length, out, room, &line, &written);
+    printf("%s=%" PRIu64 ",%" PRIu64 ",%" PRIu64 "\n", exports[export].name, number, line, written);
+    return fwrite(out, 1, room + AFTER, stdout) == room + AFTER;
 }
 
-static int file(void) {
-    uint32_t lengths[2];
-    if (!got(lengths, sizeof lengths) || lengths[0] > FILE_ROOM || lengths[1] > ROOM || !got(bytes, lengths[0])) {
-        return 0;
-    }
-    uint64_t line = UINT64_MAX, written = UINT64_MAX;
-    uint64_t number = kuyeshan_read(bytes, lengths[0], &line);
+static int answers_file(void) {
+    uint64_t line = UINT64_MAX;
+    uint64_t number = kuyeshan_read(bytes, length, &line);
     printf("read=%" PRIu64 ",%" PRIu64 "\n", number, line);
     line = UINT64_MAX;
-    number = kuyeshan_accept(bytes, lengths[0], &line);
+    number = kuyeshan_accept(bytes, length, &line);
     printf("accept=%" PRIu64 ",%" PRIu64 "\n", number, line);
-    line = UINT64_MAX;
-    memset(out, FILL, sizeof out);
-    number = kuyeshan_value(bytes, lengths[0], out, lengths[1], &line, &written);
-    printf("value=%" PRIu64 ",%" PRIu64 ",%" PRIu64 "\n", number, line, written);
-    return fwrite(out, 1, lengths[1] + AFTER, stdout) == lengths[1] + AFTER;
+    int good = 1;
+    for (int j = 0; good && j < EXPORTS; j++) {
+        good = values(j);
+    }
+    return good;
 }
 
-static int member(void) {
-    uint64_t plan[8], member[4], figures[4];
-    uint32_t rows[424];
-    if (!got(plan, sizeof plan) || !got(rows, sizeof rows) || !got(member, sizeof member)) {
-        return 0;
-    }
+static int answers_member(void) {
+    uint64_t figures[4];
     for (int j = 0; j < 4; j++) {
         figures[j] = UINT64_MAX - j;
     }
@@ -55,11 +48,6 @@ static int member(void) {
     return printf("\n") > 0;
 }
 
-/* Exits 1 where a case is cut short, or begins with another letter. */
 int main(void) {
-    int letter, good = 1;
-    while (good && (letter = getchar()) != EOF) {
-        good = letter == 'f' ? file() : letter == 'm' && member();
-    }
-    return !good || fflush(stdout) != 0;
+    return !give_each(answers_file, answers_member) || fflush(stdout) != 0;
 }

@@ -33,7 +33,8 @@
  *
  * Memory: all of it is the caller's. No pointer is null, not even with a length of 0, and what one of them points to
  * overlaps nothing that another one points to. The library keeps no pointer, allocates nothing and has no state, so
- * threads may call it at the same time. A call takes less than 128 KiB of stack, which is measured and not proved.
+ * threads may call it at the same time. A call takes less than 192 KiB of stack, which is measured and not proved; a test
+ * holds it.
  */
 #ifndef KUYESHAN_H
 #define KUYESHAN_H
@@ -58,6 +59,14 @@ uint64_t kuyeshan_accept(const uint8_t *case_bytes, size_t case_length, uint64_t
  * Else the first refusal: *line is its line, *written is 0. Bytes of `out` that no line takes stay as they were. */
 uint64_t kuyeshan_value(const uint8_t *case_bytes, size_t case_length, uint8_t *out, size_t out_length, uint64_t *line,
                         uint64_t *written);
+
+/* The same by the plain engine, which works each member's factors anew, and by the shared engine, which works them once
+ * for all members; kuyeshan_value takes one of them by the count of members. The answer, *line, *written and every byte of
+ * `out` are the same by each, proved. */
+uint64_t kuyeshan_value_plain(const uint8_t *case_bytes, size_t case_length, uint8_t *out, size_t out_length,
+                              uint64_t *line, uint64_t *written);
+uint64_t kuyeshan_value_shared(const uint8_t *case_bytes, size_t case_length, uint8_t *out, size_t out_length,
+                               uint64_t *line, uint64_t *written);
 
 /* Writes the line `refused=number,line`, with its byte 10, to the first *written bytes of `out`, and answers 0; or, where
  * it is longer than `out`, changes nothing there, sets *written to 0 and answers 30. 50 bytes are always enough. */

@@ -1,9 +1,9 @@
-/* rooms: what the library does with a buffer that just fits, is one byte short, or is empty. Reads a case file that is
- * accepted; exits 1 where an answer or a byte of the buffer is not as promised. embed/run builds and runs it. */
+/* rooms: what each export that writes does with a buffer that just fits, is one byte short, or is empty. Reads a case file
+ * that is accepted; exits 1 where an answer or a byte of the buffer is not as promised. embed/run builds and runs it. */
 #include <stdio.h>
 #include <string.h>
 
-#include "kuyeshan.h"
+#include "exports.h"
 
 enum { FILL = 0xA5 };
 
@@ -19,12 +19,16 @@ static int holds(size_t kept) {
     return memcmp(out, lines, kept) == 0;
 }
 
-/* A room of so many bytes: what is answered, and what the buffer holds then. */
+/* A room of so many bytes: what each export answers, and what the buffer holds then. */
 static int values(size_t length, size_t room, uint64_t number, size_t wrote) {
-    uint64_t line = 1, written = 1;
-    memset(out, FILL, sizeof out);
-    return kuyeshan_value(bytes, length, out, room, &line, &written) == number && line == 0 && written == wrote &&
-           holds(wrote);
+    int good = 1;
+    for (int j = 0; good && j < EXPORTS; j++) {
+        uint64_t line = 1, written = 1;
+        memset(out, FILL, sizeof out);
+        good = exports[j].value(bytes, length, out, room, &line, &written) == number && line == 0 && written == wrote &&
+               holds(wrote);
+    }
+    return good;
 }
 
 static int refuses(size_t room, uint64_t number, size_t wrote) {

@@ -31,8 +31,16 @@ def hold(name, expected, said):
     """Holds all that a program writes to what it must write for each case in turn, pairs of a case and its bytes."""
     at = 0
     for case, answer in expected:
-        if said[at:at + len(answer)] != answer:
-            sys.exit(f'{name}: {case}\n{answer} is expected, and the program writes {said[at:at + len(answer)]}')
+        got = said[at:at + len(answer)]
+        if got != answer:
+            about = shown_about(answer, got)
+            sys.exit(f'{name}: {case}\n{answer[about]} is expected, and the program writes {got[about]}')
         at += len(answer)
     if at != len(said):
         sys.exit(f'{name}: the program writes too much')
+
+
+def shown_about(answer, got):
+    """Some bytes before the first that differs, and some after it: an answer can be longer than a reader wants to see."""
+    first = next((place for place, both in enumerate(zip(answer, got)) if both[0] != both[1]), len(got))
+    return slice(max(0, first - 100), first + 100)

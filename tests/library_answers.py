@@ -2,60 +2,22 @@
 
     python3 tests/library_answers.py --check    runs target/embed/answers-c, which embed/run builds, and compares
 
-kuyeshan_read, kuyeshan_accept and kuyeshan_value get case files, with output buffers of some length (tests/rooms.py) and
-with two faults; kuyeshan_value_member gets plain values, accepted and refused ones.
+kuyeshan_read, kuyeshan_accept and the three exports that value a case file get every file of tests/value_files.py and the
+plans stored by tests/halves.py and tests/accuracy_found.py, with an output buffer that just fits, and the files and buffers
+of tests/rooms.py; kuyeshan_value_member gets plain values, accepted and refused ones.
 """
 import random
-import subprocess
 import sys
-from collections import Counter
-from pathlib import Path
 
+import accuracy_found
 import commands
-from case_files import ACCEPTING, READING, two_faults
-from case_oracle import accepting, reading
+import halves
+import value_files
+from case_files import ACCEPTING, READING
+from library import VALUING, Answers
 from member_figures import REFUSALS, all_extreme, at_edges, at_extremes, at_some_edges, drawn_accepted, drawn_case
-from oracle import refusal
-from rooms import buffer, files_with_rooms, given, outcome
-from value_files import bounds
-from value_oracle import valued_lines
-
-PROGRAM = Path(__file__).parent.parent / 'target' / 'embed' / 'answers-c'
-# What the program fills the figures with before a call.
-NO_FIGURES = [2**64 - 1 - j for j in range(4)]
-NONE = 0, 0
-
-
-class Answers:
-    """What the program must write, case by case, and how often each number is answered by each export."""
-
-    def __init__(self):
-        self.asked, self.expected = [], []
-        self.read, self.accepted, self.valued, self.members = Counter(), Counter(), Counter(), Counter()
-
-    def file(self, case, room):
-        read, accepted = reading(case) or NONE, accepting(case) or NONE
-        valued, written = outcome(valued_lines, case, room)
-        for counter, (number, _) in (self.read, read), (self.accepted, accepted), (self.valued, valued):
-            counter[number] += 1
-        said = 'read=%d,%d\naccept=%d,%d\nvalue=%d,%d,%d\n' % (*read, *accepted, *valued, len(written))
-        self.asked.append(b'f' + given(case, room))
-        self.expected.append(((case, room), said.encode() + buffer(written, room)))
-
-    def member(self, case):
-        number = refusal(*case)
-        self.members[number] += 1
-        said = 'member=%d,%d,%d,%d,%d\n' % (number, *(NO_FIGURES if number else case.figures()))
-        self.asked.append(b'm' + case.bytes())
-        self.expected.append((case, said.encode()))
-
-    def check(self):
-        said = subprocess.run([PROGRAM], input=b''.join(self.asked), stdout=subprocess.PIPE, check=True).stdout
-        commands.hold('library_answers', self.expected, said)
-        for counter, numbers in ((self.read, READING), (self.accepted, ACCEPTING), (self.valued, ACCEPTING | {30}),
-                                 (self.members, REFUSALS)):
-            if set(counter) != numbers | {0}:
-                sys.exit(f'library_answers: an export answers {sorted(counter)} only, or a number that is not due')
+from rooms import files_with_rooms
+from value_oracle import lines
 
 
 def plain_values(rng):
@@ -68,18 +30,67 @@ def plain_values(rng):
     yield from (drawn_case(rng) for _ in range(200))
 
 
+# ---- the stored plans
+
+def of_halves():
+    """A plan, its rows and its members: one, or none."""
+    return [(one.plan, one.rows(), one.members()) for one in halves.read()]
+
+
+def of_farthest():
+    return [(plan, rows, [member]) for plan, rows, member in (one.case() for one in accuracy_found.read())]
+
+
+def once_and_twice(plan, rows, members):
+    """The file; and, where it has a member, one with the same twice: kuyeshan_value takes the shared engine for it."""
+    yield value_files.case_file(plan, rows, members)
+    if members:
+        yield value_files.case_file(plan, rows, members + [members[0]._replace(id=members[0].id + 1)])
+
+
+def files_of(plans):
+    return [case for plan in plans for case in once_and_twice(*plan)]
+
+
+# ---- comparing
+
+def give_whole(answers, cases):
+    for case in cases:
+        answers.file(case, len(lines(case)))
+
+
+def give_stored(answers, cases):
+    """Each of them must be accepted."""
+    accepted = answers.accepted[0]
+    give_whole(answers, cases)
+    if answers.accepted[0] != accepted + len(cases):
+        sys.exit('library_answers: a stored plan is refused')
+
+
+def check_numbers(answers):
+    """Every number that an export can answer is answered."""
+    for counter, numbers in ((answers.read, READING), (answers.accepted, ACCEPTING), (answers.valued, ACCEPTING | {30}),
+                             (answers.members, REFUSALS)):
+        if set(counter) != numbers | {0}:
+            sys.exit(f'library_answers: an export answers {sorted(counter)} only, or a number that is not due')
+
+
 def check():
-    rng, answers = random.Random(8), Answers()
+    answers, half, farthest = Answers(), files_of(of_halves()), files_of(of_farthest())
+    give_stored(answers, half + farthest)
+    give_whole(answers, value_files.files(random.Random(value_files.SEED), value_files.DRAWN))
+    whole = answers.read.total()
     for case, room in files_with_rooms():
         answers.file(case, room)
-    for case in (*bounds(), *(case for case, _, _ in two_faults(100, seed=9))):
-        answers.file(case, rng.choice([0, 13, 4096]))
-    for case in plain_values(rng):
+    for case in plain_values(random.Random(8)):
         answers.member(case)
-    answers.check()
-    print(f'library_answers: {answers.read.total()} files are answered alike (read {commands.counted(answers.read)}; '
-          f'accepted {commands.counted(answers.accepted)}; valued {commands.counted(answers.valued)}), '
-          f'and {answers.members.total()} members ({commands.counted(answers.members)})')
+    answers.hold('library_answers')
+    check_numbers(answers)
+    print(f'library_answers: {whole} whole files, {len(half)} of them of the exact halves and {len(farthest)} of the '
+          f'farthest found, with one member and with two, and {answers.read.total() - whole} files and buffers are '
+          f'answered alike (read {commands.counted(answers.read)}; accepted {commands.counted(answers.accepted)}; by each of '
+          f'{", ".join(VALUING)} {commands.counted(answers.valued)}), and {answers.members.total()} members '
+          f'({commands.counted(answers.members)})')
 
 
 if __name__ == '__main__':

@@ -14,6 +14,8 @@ from value_oracle import ROOM, ended, lines
 
 FILL = b'\xa5'
 AFTER = 16
+# The longest lines, that of a member and the plan's three: where these fit, crates/fitting measures none.
+LONGEST_LINE, LONGEST_PLAN_LINES = 64, 145
 
 
 def given(case, room):
@@ -33,12 +35,25 @@ def outcome(entry, case, room):
         return refusal.args, b''
 
 
-def rooms(case):
+def about(text):
+    """A buffer that the text just fits, one that is a byte short, and one that has a byte left."""
+    return {len(text) - 1, len(text), len(text) + 1}
+
+
+def about_printed(case):
     """About the length of what is printed, and about that of the line of a refusal for want of room."""
-    lengths = {0, 1, ROOM}
-    for length in (len(lines(case)), len(ended(['refused=30,0']))):
-        lengths |= {length - 1, length, length + 1}
-    return sorted(lengths)
+    return {0, 1, ROOM} | about(lines(case)) | about(ended(['refused=30,0']))
+
+
+def about_measured(case):
+    """The longest buffer for which the lines of so many members are measured, and the shortest for which they aren't."""
+    surely = LONGEST_LINE * case.count(b'\nmember=') + LONGEST_PLAN_LINES
+    return {surely - 1, surely}
+
+
+def rooms(case):
+    """All these, the shortest first."""
+    return sorted(about_printed(case) | about_measured(case))
 
 
 def small():

@@ -4,7 +4,7 @@
 
 The program is run once for each file: those worked by hand (RULES section 14), those at a bound, damaged ones, those
 with two faults, and N drawn ones. What it prints as supplemental is also held to its limit (rule 11.4), and a member's
-line must not hang on the other members (rule 11.5).
+line must not hang on the other members (rule 11.5). tests/library_answers.py gives the same files to the library.
 """
 import argparse
 import random
@@ -32,6 +32,8 @@ FORMULA_NAMES = {1: 'flat', 2: 'career', 3: 'final'}
 # No output is longer. A member line has an id of 9 digits, a B(r) of up to 1000000.00, and a V, N and L of less than
 # 100000000.00 each, since A(50) is at most 71: 64 bytes. So the lines fit the program's buffer, and 30 can't occur.
 LONGEST = 64112
+# The files of a run, where nothing else is said: how many are drawn, and from which seed.
+DRAWN, SEED = 2000, 11
 
 
 def case_file(plan, rows, members):
@@ -296,8 +298,8 @@ def check(count, seed):
 def main():
     parser = argparse.ArgumentParser(description=__doc__, formatter_class=argparse.RawDescriptionHelpFormatter)
     parser.add_argument('--check', action='store_true', required=True)
-    parser.add_argument('--files', type=int, default=2000, help='how many drawn ones')
-    parser.add_argument('--seed', type=int, default=11)
+    parser.add_argument('--files', type=int, default=DRAWN, help='how many drawn ones')
+    parser.add_argument('--seed', type=int, default=SEED)
     chosen = parser.parse_args()
     check(chosen.files, chosen.seed)
 

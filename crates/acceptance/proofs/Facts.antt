@@ -122,6 +122,13 @@ range-facts p before m e =
       paid = leb-true _ _ (kept (leb (m .salary) 100000000) 23 (k .1 .1 .1 .0));
     }
 
+-- rule 4.2: nine digits at most; an id is no part of the ranges, since no figure rests on it
+pub id-small : (p : Plan) (rows : List (List ℕ)) (before : ℕ) (m : Member) → memberRefusal p rows before m ≡ 0 → m .id ≤ 999999999
+unfolding memberRefusal fieldRules
+id-small p rows before m e =
+    let k = all-kept (fieldRules p before m) (both-refusals (fieldRules p before m) (benefitRules p rows m) e .0) in
+    between-true 1 999999999 (m .id) (both-true (between 1 999999999 (m .id)) (ltb before (m .id)) (kept (between 1 999999999 (m .id) && ltb before (m .id)) 20 (k .0)) .0) .1
+
 pub member-facts : (p : Plan) (rows : List (List ℕ)) (before : ℕ) (m : Member) → planRefusal p rows ≡ 0 → memberRefusal p rows before m ≡ 0 → MemberRanges p rows m
 unfolding memberRefusal benefitRules
 member-facts p rows before m plan e =

@@ -9,3 +9,4 @@ pub mod Sizes
 pub mod Chains
 pub mod Accuracy
 pub mod Filling
+pub mod ColumnLaws

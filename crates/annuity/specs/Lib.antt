@@ -3,4 +3,5 @@ pub mod Basis
 pub mod Factors
 pub mod Accuracy
 pub mod Filled
+pub mod Columns
 pub mod Figures

@@ -1,17 +1,20 @@
 // The annuity factors, RULES section 8: the year step, and A, G, T, Z and C in billionths.
 // The crate `rates` has the table, and staying by its rows; specs/Factors.antt the factors, rounded and exact, in the
-// rules' letters; specs/Accuracy.antt how far apart the two lie. Here they are worked: the rows go by value to the step
-// functions, and one fill, downward from the last age, serves A, G, T and Z. An array has a place for each of the 106
-// ages; age k stands at place k - 15. Each `requires` is what an accepted plan shows.
+// rules' letters; specs/Accuracy.antt how far apart the two lie. Here they are worked: the rows go by value to the functions
+// of A, G, T and Z, and by reference to the one fill, downward from the last age, that serves them all. An array has a place
+// for each of the 106 ages; age k stands at place k - 15. columns.rt keeps T and Z for all who need them. Each `requires` is
+// what an accepted plan shows.
+pub mod columns;
+
 use rates::AGES;
 use rates::FIRST_AGE;
 use rates::Rows;
 ghost use mathlib.Core.Path.{_≡_};
-ghost use Prim.Native.Nat.{_+_, _*_, _≤_};
+ghost use Prim.Native.Nat.{_+_, _-_, _*_, _≤_};
 ghost use lib.ListN.{getD};
 ghost use Rattle.rounding.specs.Nearest.{nearest};
 ghost use Rattle.rates.specs.Rates.{stays};
-ghost use Rattle.rates.specs.Table.{Sound, Table, ages};
+ghost use Rattle.rates.specs.Table.{Sound, Table, firstAge, ages};
 ghost use Rattle.annuity.specs.Basis.{basis};
 ghost use Rattle.annuity.specs.Factors.{A as Factors·A, pension as Factors·pension, G, T, Z, C};
 ghost use Rattle.annuity.specs.Factors.{S as Factors·S};
@@ -29,6 +32,14 @@ fn step(row: [u32; 4], r: usize, i: u64, k: usize, f: u64) -> u64
     ensures { λ g. ⌜ g ≡ nearest (f * stays row r k) (100 * (10000 + i)) ⌝ }
 {
     rounding::mul_div_nearest(f, rates::staying(row, r, k), 100 * (10_000 + i))
+}
+
+// What an array of factors holds for age k.
+pub fn of_age(a: &Factors, k: usize) -> u64
+    requires { ⌜ (15 ≤ k) × (k ≤ 120) ⌝ }
+    ensures { λ f. ⌜ f ≡ getD (now (a .entry)) (k - firstAge) 0 ⌝ }
+{
+    a[k - FIRST_AGE]
 }
 
 // What is paid at the start of each year: nothing, one, or the age's weight.
@@ -50,9 +61,9 @@ fn amount_of(row: [u32; 4], amount: Amount) -> u64
 }
 
 // Rule 8.9: the factor of each age up to `top`, filled downward from `start` there.
-fn fill(rows: Rows, r: usize, i: u64, amount: Amount, top: usize, start: u64) -> Factors
-    requires { ⌜ Table rows × (i ≤ 2000) × (15 ≤ top) × (top ≤ 120) × (start ≤ ages * Factors·S) ⌝ }
-    ensures { λ a. ⌜ Filled (factor (basis rows r i) amount top start) top 15 a ⌝ }
+fn fill(rows: &Rows, r: usize, i: u64, amount: Amount, top: usize, start: u64) -> Factors
+    requires { ⌜ Table (now rows) × (i ≤ 2000) × (15 ≤ top) × (top ≤ 120) × (start ≤ ages * Factors·S) ⌝ }
+    ensures { λ a. ⌜ Filled (factor (basis (now (rows .entry)) r i) amount top start) top 15 a ⌝ }
 {
     let mut a = [0u64; AGES];
     let mut j: usize = top - FIRST_AGE;
@@ -71,15 +82,23 @@ pub fn life_annuity(rows: Rows, r: usize, i: u64) -> Factors
     requires { ⌜ Table rows × (i ≤ 2000) ⌝ }
     ensures { λ a. ⌜ Filled (Factors·A (basis rows r i)) 120 15 a ⌝ }
 {
+    life_of(&rows, r, i)
+}
+
+// The same where the rows are lent.
+fn life_of(rows: &Rows, r: usize, i: u64) -> Factors
+    requires { ⌜ Table (now rows) × (i ≤ 2000) ⌝ }
+    ensures { λ a. ⌜ Filled (Factors·A (basis (now (rows .entry)) r i)) 120 15 a ⌝ }
+{
     fill(rows, r, i, Amount::One, 120, S)
 }
 
 // Rule 8.5, the annuity that a pension is worth at retirement: A(r).
-fn pension(rows: Rows, r: usize, i: u64) -> u64
-    requires { ⌜ Table rows × (i ≤ 2000) × (15 ≤ r) × (r ≤ 120) ⌝ }
-    ensures { λ p. ⌜ p ≡ Factors·pension (basis rows r i) ⌝ }
+fn pension(rows: &Rows, r: usize, i: u64) -> u64
+    requires { ⌜ Table (now rows) × (i ≤ 2000) × (15 ≤ r) × (r ≤ 120) ⌝ }
+    ensures { λ p. ⌜ p ≡ Factors·pension (basis (now (rows .entry)) r i) ⌝ }
 {
-    let life = life_annuity(rows, r, i);
+    let life = life_of(rows, r, i);
     life[r - FIRST_AGE]
 }
 
@@ -88,8 +107,8 @@ pub fn deferred_annuity(rows: Rows, r: usize, i: u64) -> Factors
     requires { ⌜ Table rows × (i ≤ 2000) × (15 ≤ r) × (r ≤ 120) ⌝ }
     ensures { λ a. ⌜ Filled (G (basis rows r i)) r 15 a ⌝ }
 {
-    let start = pension(rows, r, i);
-    fill(rows, r, i, Amount::Nothing, r, start)
+    let start = pension(&rows, r, i);
+    fill(&rows, r, i, Amount::Nothing, r, start)
 }
 
 // Rule 8.6: T(k,e) for each age up to e.
@@ -97,7 +116,7 @@ pub fn working_annuity(rows: Rows, r: usize, i: u64, e: usize) -> Factors
     requires { ⌜ Table rows × (i ≤ 2000) × (15 ≤ e) × (e ≤ 120) ⌝ }
     ensures { λ a. ⌜ Filled (λ k. T (basis rows r i) k e) e 15 a ⌝ }
 {
-    fill(rows, r, i, Amount::One, e, 0)
+    fill(&rows, r, i, Amount::One, e, 0)
 }
 
 // Rule 8.7: Z(k,e) for each age up to e.
@@ -105,7 +124,7 @@ pub fn pay_annuity(rows: Rows, r: usize, i: u64, e: usize) -> Factors
     requires { ⌜ Table rows × (i ≤ 2000) × (15 ≤ e) × (e ≤ 120) ⌝ }
     ensures { λ a. ⌜ Filled (λ k. Z (basis rows r i) k e) e 15 a ⌝ }
 {
-    fill(rows, r, i, Amount::Weight, e, 0)
+    fill(&rows, r, i, Amount::Weight, e, 0)
 }
 
 // Rule 8.8: C, of m payments that are certain.

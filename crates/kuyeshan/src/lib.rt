@@ -11,6 +11,7 @@ use plan::Terms;
 use rates::AGES;
 use rates::Rows;
 use rules::terms::plan_from;
+use totals::EngineChoice;
 ghost use mathlib.Core.Path.{_≡_};
 ghost use mathlib.Core.Bool.{false};
 ghost use lib.ListN.{length};
@@ -63,7 +64,8 @@ pub extern "C" fn kuyeshan_accept(case: &[u8], line: &mut u64) -> u64
     }
 }
 
-// Values a case file: the lines of its members and of the plan, at the start of `out`, or a refusal.
+// Values a case file: the lines of its members and of the plan, at the start of `out`, or a refusal. The engine is chosen by
+// the count of members: both give the same.
 #[no_mangle]
 pub extern "C" fn kuyeshan_value(
     case: &[u8],
@@ -76,7 +78,55 @@ pub extern "C" fn kuyeshan_value(
     ensures { λ _. ⌜ now (line .exit) ≡ lineNumberOf (valuedOf (length (now (out .entry))) (now (case .entry))) ⌝ }
     ensures { λ _. ⌜ now (written .exit) ≡ writtenOf (valuedOf (length (now (out .entry))) (now (case .entry))) ⌝ }
 {
-    match valuation::value_case(case, out) {
+    value_by(EngineChoice::ByCount, case, out, line, written)
+}
+
+// The same by the plain engine.
+#[no_mangle]
+pub extern "C" fn kuyeshan_value_plain(
+    case: &[u8],
+    out: &mut [u8],
+    line: &mut u64,
+    written: &mut u64,
+) -> u64
+    ensures { λ r. ⌜ r ≡ numberOf (valuedOf (length (now (out .entry))) (now (case .entry))) ⌝ }
+    ensures { λ _. ⌜ now (out .exit) ≡ buffer (valuedOf (length (now (out .entry))) (now (case .entry))) (now (out .entry)) ⌝ }
+    ensures { λ _. ⌜ now (line .exit) ≡ lineNumberOf (valuedOf (length (now (out .entry))) (now (case .entry))) ⌝ }
+    ensures { λ _. ⌜ now (written .exit) ≡ writtenOf (valuedOf (length (now (out .entry))) (now (case .entry))) ⌝ }
+{
+    value_by(EngineChoice::Plain, case, out, line, written)
+}
+
+// The same by the shared engine.
+#[no_mangle]
+pub extern "C" fn kuyeshan_value_shared(
+    case: &[u8],
+    out: &mut [u8],
+    line: &mut u64,
+    written: &mut u64,
+) -> u64
+    ensures { λ r. ⌜ r ≡ numberOf (valuedOf (length (now (out .entry))) (now (case .entry))) ⌝ }
+    ensures { λ _. ⌜ now (out .exit) ≡ buffer (valuedOf (length (now (out .entry))) (now (case .entry))) (now (out .entry)) ⌝ }
+    ensures { λ _. ⌜ now (line .exit) ≡ lineNumberOf (valuedOf (length (now (out .entry))) (now (case .entry))) ⌝ }
+    ensures { λ _. ⌜ now (written .exit) ≡ writtenOf (valuedOf (length (now (out .entry))) (now (case .entry))) ⌝ }
+{
+    value_by(EngineChoice::Shared, case, out, line, written)
+}
+
+// What the three share.
+fn value_by(
+    engine: EngineChoice,
+    case: &[u8],
+    out: &mut [u8],
+    line: &mut u64,
+    written: &mut u64,
+) -> u64
+    ensures { λ r. ⌜ r ≡ numberOf (valuedOf (length (now (out .entry))) (now (case .entry))) ⌝ }
+    ensures { λ _. ⌜ now (out .exit) ≡ buffer (valuedOf (length (now (out .entry))) (now (case .entry))) (now (out .entry)) ⌝ }
+    ensures { λ _. ⌜ now (line .exit) ≡ lineNumberOf (valuedOf (length (now (out .entry))) (now (case .entry))) ⌝ }
+    ensures { λ _. ⌜ now (written .exit) ≡ writtenOf (valuedOf (length (now (out .entry))) (now (case .entry))) ⌝ }
+{
+    match valuation::value_case_by(engine, case, out) {
         Answer::Written(n) => {
             *line = 0;
             *written = n as u64;

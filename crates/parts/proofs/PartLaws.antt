@@ -1,5 +1,5 @@
 -- The parts of an accepted member fit, and the figures from them are its figures, by each of the five methods.
-use mathlib.Core.Path.{_≡_, refl}
+use mathlib.Core.Path.{_≡_, refl, ap, _∙_}
 use mathlib.Core.Bool.{Bool, true, false, cond}
 use mathlib.Core.List.{List}
 use Prim.Native.Nat.{ℕ, _+_, _*_, _≤_, _<_}
@@ -19,8 +19,9 @@ use Rattle.plan.specs.declared.Method.the-variants.{AB, BD, BP, CD, CP}
 use Rattle.plan.specs.Ranges.{MemberRanges}
 use Rattle.costs.specs.Setting.{Setting}
 use Rattle.costs.specs.Costs.{PV, cost, N, L}
-use Rattle.costs.specs.Valuation.{planBasis, settingOf, figuresAt}
-use Rattle.parts.specs.Parts.{earned, adds, divisor, partsAt, costFactor, liabilityFactor, figuresFrom, From-Parts}
+use Rattle.costs.specs.Valuation.{methodOf, planBasis, settingOf, figuresAt, figures}
+use Rattle.parts.specs.declared.Parts.{Parts}
+use Rattle.parts.specs.Parts.{earned, adds, divisor, partsAt, costFactor, liabilityFactor, figuresFrom, SmallParts, From-Parts}
 use Rattle.costs.proofs.RollForward.{M-positive}
 use Rattle.costs.proofs.Limits.{B-most, M-split, W-most}
 use Rattle.costs.proofs.Needs.{facts, sound, G-small, pay-least}
@@ -100,3 +101,10 @@ from-parts p rows m accepted method k from to =
         liability = liabilities p rows m accepted method k i;
       };
     }
+
+-- so whatever gives the parts at a member's own age, by the plan's method, gives its figures: all that an engine cites
+pub own-figures : (p : Plan) (rows : List (List ℕ)) (m : Member) → MemberRanges p rows m → {method : Method} {q : Parts} → method ≡ methodOf (p .method) → q ≡ partsAt (settingOf p rows m) (m .age) method → SmallParts q × (figuresFrom q method ≡ figures p rows m)
+unfolding figures
+own-figures p rows m accepted {method} {q} by is =
+    let law = from-parts p rows m accepted method (m .age) (accepted .in-range .past-entry) (accepted .in-range .not-past) in
+    (rw is (law .fits), rw is (law .figures) ∙ ap (λ (method : Method). figuresAt p rows m method (m .age)) by)

@@ -1,6 +1,6 @@
-// The plain engine: a member's figures by factors of its own. factors.rt works the parts, of which the crate parts makes
-// the figures. `value_member` is the entry: it has no `requires`, and its contract is the figures' equation and the limits
-// on its N and L.
+// The plain engine: a member's figures by factors of its own. factors.rt works the annuities; the crate parts makes the parts
+// of them, and of the parts the figures. `value_member` is the entry: it has no `requires`, and its contract is the figures'
+// equation and the limits on its N and L.
 mod factors;
 
 use acceptance::lone_refusal;

@@ -13,7 +13,7 @@ use Rattle.rounding.specs.declared.Signed.{Signed}
 use Rattle.rounding.specs.Signed.{integerOf}
 use Rattle.printing.specs.Amounts.{digits, widthUpTo, width, wholeNumber, amount, signedAmount}
 
-digits-length : (w n : ℕ) → length (digits w n) ≡ w
+pub digits-length : (w n : ℕ) → length (digits w n) ≡ w
 unfolding digits
 digits-length zero n = refl
 digits-length (suc w) n = simp (length-append, digits-length w (n / 10)) (omega arith)

@@ -55,9 +55,9 @@ pub fn staying(row: [u32; 4], r: usize, k: usize) -> u64
 }
 
 // Rule 3.5, W(k): the weight of age k.
-pub fn weight(rows: Rows, k: usize) -> u64
+pub fn weight(rows: &Rows, k: usize) -> u64
     requires { ⌜ (15 ≤ k) × (k ≤ 120) ⌝ }
-    ensures { λ w. ⌜ w ≡ Table·weight rows k ⌝ }
+    ensures { λ w. ⌜ w ≡ Table·weight (now (rows .entry)) k ⌝ }
 {
     word(rows[k - FIRST_AGE][3])
 }

@@ -1,2 +1,3 @@
 -- Laws that no function owns.
 pub mod PrintedLaws
+pub mod LineLengths

@@ -1,12 +1,11 @@
 -- Every amount that is printed of an accepted case has 12 digits at most before its point.
 use mathlib.Core.Path.{_≡_, refl}
-use mathlib.Core.Bool.{Bool, true, false, cond, _&&_}
-use mathlib.Core.List.{List, [], _∷_, _++_}
+use mathlib.Core.Bool.{Bool, true, false, cond}
+use mathlib.Core.List.{List, [], _∷_}
 use Prim.Native.Nat.{ℕ, zero, suc, _-_, _*_, _≤_, _<_}
 use native.Mathlib.Nat.{mul-le-mul-right}
 use native.Mathlib.Omega.{arith}
-use lib.Dec.{leb, ltb}
-use borrow.Author.Tests.{leb-true}
+use lib.Dec.{ltb}
 use lib.ListN.{length, getD}
 use lib.IntN.{ℤ, pos, negsuc, negℤ, natAbs, _-ℤ_, _*ℤ_}
 use Rattle.rounding.specs.Nearest.{nearest, nearestℤ}
@@ -15,11 +14,8 @@ use Rattle.annuity.specs.Factors.{S, C}
 use Rattle.annuity.proofs.Sizes.{C-least}
 use Rattle.plan.specs.declared.Plan.{Plan}
 use Rattle.plan.specs.declared.Member.{Member}
-use Rattle.rules.specs.Rules.{unless}
-use Rattle.acceptance.specs.Acceptance.{fieldRules, benefitRules, memberRefusal}
 use Rattle.plan.specs.Ranges.{MemberRanges}
-use Rattle.rules.proofs.RuleLaws.{all-kept}
-use Rattle.acceptance.proofs.Facts.{plan-facts, member-facts}
+use Rattle.acceptance.proofs.Facts.{plan-facts, id-small, member-facts}
 use Rattle.costs.specs.declared.Figures.{Figures}
 use Rattle.costs.specs.Valuation.{figures}
 use Rattle.parts.proofs.FigureSizes.{SmallFigures, figures-small}
@@ -28,17 +24,6 @@ use Rattle.walk.proofs.Accepted.{accepted-keeps}
 use Rattle.casefile.specs.Answers.{acceptingOf}
 use Rattle.totals.specs.Totals.{total, unfunded, supplemental}
 use Rattle.statements.specs.Statements.{Printed-Amounts-Fit}
-
--- ---- ids
-middle : (t u w : Bool) → unless ((t && u) && w) 21 ≡ 0 → u ≡ true
-middle true true w e = refl
-middle true false w e = absurd (omega arith)
-middle false u w e = absurd (omega arith)
-
-id-small : (p : Plan) (rows : List (List ℕ)) (before : ℕ) (m : Member) → memberRefusal p rows before m ≡ 0 → m .id ≤ 999999999
-unfolding memberRefusal fieldRules
-id-small p rows before m e =
-    leb-true _ _ (middle (leb 1 (m .id)) (leb (m .id) 999999999) (ltb before (m .id)) (all-kept (fieldRules p before m ++ benefitRules p rows m) e .0))
 
 -- ---- sums
 total-small : (p : Plan) (rows : List (List ℕ)) (figure : Figures → ℕ) (top : ℕ) (members : List Member) → ((j : ℕ) → j < length members → figure (figures p rows (getD members j nobody)) ≤ top) → total p rows figure members ≤ length members * top

@@ -7,3 +7,4 @@ pub mod LoneMember
 pub mod ReadBack
 pub mod AmountSizes
 pub mod Statements
+pub mod Engines

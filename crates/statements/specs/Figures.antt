@@ -20,11 +20,13 @@ use Rattle.acceptance.specs.Acceptance.{loneRefusal, planRefusal, memberRefusal
 use Rattle.costs.specs.Costs.{PV, cost, N, L}
 use Rattle.costs.specs.Valuation.{methodOf, figuresAt, figures}
 use Rattle.costs.specs.Figures.{short-plan, short-member, member-figures}
+use Rattle.parts.specs.Parts.{partsAt, figuresFrom}
 use Rattle.fields.specs.Text.{bytes}
 use Rattle.printing.specs.Amounts.{digits, width, wholeNumber, amount, signedAmount}
 use Rattle.printing.specs.Lines.{fields, amountsLine, signedLine}
 use Rattle.totals.specs.Totals.{total, unfunded, supplemental}
 use Rattle.report.specs.Lines.{figuresLine, totalLine, planLines, memberLine, memberLines, printed}
+use Rattle.statements.specs.Engines.{plainly, figuresFromKept, figuresBy, totalOf, linesOf, printedOf}
 
 -- rule 14.8, the short plan overfunded: no member, and assets of 100.00
 abbrev over-plan : Plan
@@ -48,3 +50,8 @@ proved-set-stands = refl
 pub short-lines : printed short-plan short (short-member ∷ []) ≡ bytes "member=7,200.00,181.82,86.58,95.24\ntotal=1,181.82,86.58,95.24\nunfunded=75.24\nsupplemental=39.41\n"
 unfolding printed memberLines memberLine planLines totalLine figuresLine amountsLine signedLine fields signedAmount amount wholeNumber width digits total unfunded supplemental figures figuresAt methodOf formulaOf exactBenefit B PV cost N L short able serves stays staying nearest nearestℤ carried step A pension G T C _over_ whole
 short-lines = refl
+
+-- and by the figures of an engine that gives the parts
+pub short-lines-by : printedOf short-plan (short-member ∷ []) (figuresBy plainly short-plan short (short-member ∷ [])) ≡ printed short-plan short (short-member ∷ [])
+unfolding printedOf linesOf totalOf figuresFromKept figuresFrom partsAt printed memberLines memberLine total unfunded supplemental figures figuresAt methodOf formulaOf exactBenefit B PV cost N L short able serves stays staying nearest nearestℤ carried step A pension G T C _over_ whole
+short-lines-by = refl

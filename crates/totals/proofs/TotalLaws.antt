@@ -63,7 +63,7 @@ sums-totals p rows members worked n all =
 pub worked-small : (p : Plan) (rows members worked : List (List ℕ)) (n : ℕ) → AcceptedMembers p rows members n → AreWorked p rows members worked n → SmallIn worked n
 worked-small p rows members worked n a all j h =
     let s = figures-small p rows (memberAt members j) (a .member j h) in
-    subst⁻¹ Small (all j h) (omega (arith, s .value), omega (arith, s .cost), omega (arith, s .liability))
+    subst⁻¹ Small (all j h) (s .benefit, omega (arith, s .value), s .cost, omega (arith, s .liability))
 
 module _ (figure : Figures → ℕ) (worked : List (List ℕ)) where
   pub sum-none : 0 ≡ sumIn figure worked 0

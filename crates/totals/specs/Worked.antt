@@ -22,6 +22,7 @@ membersIn a (suc n) = membersIn a n ++ (memberAt a n ∷ [])
 pub record AcceptedMembers (p : Plan) (rows members : List (List ℕ)) (n : ℕ) : Type 0 where
   pub plan : planRefusal p rows ≡ 0
   pub few : n ≤ mostMembers
+  pub id : (j : ℕ) → j < n → memberAt members j .id ≤ 999999999
   pub member : (j : ℕ) → j < n → MemberRanges p rows (memberAt members j)
 
 -- four words as figures; and those at place j of an array
@@ -48,9 +49,10 @@ sumsIn worked n =
       liability = sumIn (λ f. f .liability) worked n;
     }
 
--- figures small enough for 1,000 of them to be summed in a word; and the first n are
+-- a benefit of 1000000.00 at most (rule 7.8), and no other figure above 71 times that and half a dollar: 1,000 of them are summed in a word;
+-- and the first n are such
 abbrev pub Small : Figures → Type 0
-Small f = (f .value ≤ 7100000050) × (f .cost ≤ 7100000050) × (f .liability ≤ 7100000050)
+Small f = (f .benefit ≤ 100000000) × (f .value ≤ 7100000050) × (f .cost ≤ 7100000050) × (f .liability ≤ 7100000050)
 
 abbrev pub SmallIn : (worked : List (List ℕ)) → ℕ → Type 0
 SmallIn worked n = (j : ℕ) → j < n → Small (figuresIn worked j)

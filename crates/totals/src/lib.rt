@@ -1,11 +1,17 @@
-// The figures of all members and the plan's own: RULES section 11. `work` fills the array of figures and sums them, one
-// after the other; the text is the crate report's. specs/Totals.antt has the totals, specs/Worked.antt what the array
-// holds.
+// The figures of all members and the plan's own: RULES section 11. `work` fills the array of figures by either engine and
+// sums them, one after the other; the text is the crate report's. specs/Totals.antt has the totals, specs/Worked.antt what
+// the array holds.
+use annuity::Factors;
+use annuity::columns::Columns;
+use annuity::columns::ENDS;
+use annuity::columns::Marks;
+use annuity::deferred_annuity;
 use costs::Figures;
 use plan::MOST_MEMBERS;
 use plan::Member;
 use plan::Members;
 use plan::Plan;
+use rates::AGES;
 use rates::Rows;
 use rounding::Signed;
 ghost use mathlib.Core.Path.{_≡_};
@@ -15,10 +21,11 @@ ghost use Rattle.rounding.specs.Nearest.{nearestℤ};
 ghost use Rattle.rounding.specs.Signed.{integerOf, signed};
 ghost use Rattle.annuity.specs.Factors.{S as Factors·S, C};
 ghost use Rattle.walk.specs.Lines.{mostMembers};
+ghost use Rattle.shared_engine.specs.Shared.{Shared};
 ghost use Rattle.members.specs.Array.{memberAt};
 ghost use Rattle.totals.specs.Totals.{totals};
-ghost use Rattle.totals.specs.Worked.{AcceptedMembers, figuresIn, membersIn, sumsIn, SmallIn};
-ghost use Rattle.totals.specs.Worked.{AreWorked};
+ghost use Rattle.totals.specs.Choice.{sharedFor};
+ghost use Rattle.totals.specs.Worked.{AcceptedMembers, figuresStored, figuresIn, membersIn, sumsIn, SmallIn, AreWorked};
 
 // Rule 11.1: the sums of the printed V, N and L, in cents.
 pub struct Totals {
@@ -58,8 +65,36 @@ pub fn figures_at(worked: &Worked, j: usize) -> Figures
     }
 }
 
+// Figures as the array holds them.
+fn numbers_of(f: Figures) -> [u64; 4]
+    ensures { λ a. ⌜ figuresStored a ≡ f ⌝ }
+{
+    [f.benefit, f.value, f.cost, f.liability]
+}
+
+// Rule 9.12: which engine works the figures, the plain one or the shared one; `ByCount` leaves it to the count of members.
+pub enum EngineChoice {
+    Plain,
+    Shared,
+    ByCount,
+}
+
+// From so many members on the shared engine is the quicker one, by bench/run.
+const SHARED_FROM: usize = 2;
+
+// Whether the shared engine works so many members.
+fn shares(engine: EngineChoice, count: usize) -> bool
+    ensures { λ s. ⌜ s ≡ sharedFor engine count ⌝ }
+{
+    match engine {
+        EngineChoice::Plain => false,
+        EngineChoice::Shared => true,
+        EngineChoice::ByCount => SHARED_FROM <= count,
+    }
+}
+
 // Works each member's figures into the array, by the plain engine. Past the last member the array is left open.
-fn fill_figures(p: Plan, rows: Rows, members: &Members, count: usize, worked: &mut Worked)
+fn fill_plainly(p: Plan, rows: Rows, members: &Members, count: usize, worked: &mut Worked)
     requires { ⌜ AcceptedMembers p rows (now members) count ⌝ }
     ensures { λ _. ⌜ AreWorked p rows (now (members .entry)) (now (worked .exit)) count ⌝ }
 {
@@ -67,10 +102,74 @@ fn fill_figures(p: Plan, rows: Rows, members: &Members, count: usize, worked: &m
     *worked = [[0u64; 4]; MOST_MEMBERS];
     let mut j = 0;
     while j < count {
-        let f = plain_engine::figures_of(p, rows, member_at(members, j));
-        worked[j] = [f.benefit, f.value, f.cost, f.liability];
+        let own = plain_engine::figures_of(p, rows, member_at(members, j));
+        worked[j] = numbers_of(own);
         j += 1;
     }
+}
+
+// The same by the shared engine: G is worked here, and no column is filled yet.
+fn fill_shared(p: Plan, rows: Rows, members: &Members, count: usize, worked: &mut Worked)
+    requires { ⌜ AcceptedMembers p rows (now members) count ⌝ }
+    ensures { λ _. ⌜ AreWorked p rows (now (members .entry)) (now (worked .exit)) count ⌝ }
+{
+    let g = deferred_annuity(rows, p.retire as usize, p.interest);
+    let mut columns = [[0u64; AGES]; ENDS];
+    let mut marks = [false; ENDS];
+    fill_from_shared(
+        p,
+        &rows,
+        members,
+        count,
+        &g,
+        &mut columns,
+        &mut marks,
+        worked,
+    );
+}
+
+// Works each member's figures into the array from the annuities that are shared. Past the last member the array is left
+// open.
+fn fill_from_shared(
+    p: Plan,
+    rows: &Rows,
+    members: &Members,
+    count: usize,
+    g: &Factors,
+    columns: &mut Columns,
+    marks: &mut Marks,
+    worked: &mut Worked,
+)
+    requires { ⌜ AcceptedMembers p (now rows) (now members) count × Shared p (now rows) (now g) (now columns) (now marks) ⌝ }
+    ensures { λ _. ⌜ AreWorked p (now (rows .entry)) (now (members .entry)) (now (worked .exit)) count ⌝ }
+    ensures { λ _. ⌜ Shared p (now (rows .entry)) (now (g .entry)) (now (columns .exit)) (now (marks .exit)) ⌝ }
+{
+    *worked = [[0u64; 4]; MOST_MEMBERS];
+    let mut j = 0;
+    while j < count {
+        let f = shared_engine::figures_of(p, rows, member_at(members, j), g, columns, marks);
+        worked[j] = numbers_of(f);
+        j += 1;
+    }
+}
+
+// Works each member's figures into the array, by an engine.
+fn fill_figures(
+    engine: EngineChoice,
+    p: Plan,
+    rows: Rows,
+    members: &Members,
+    count: usize,
+    worked: &mut Worked,
+)
+    requires { ⌜ AcceptedMembers p rows (now members) count ⌝ }
+    ensures { λ _. ⌜ AreWorked p rows (now (members .entry)) (now (worked .exit)) count ⌝ }
+{
+    if shares(engine, count) {
+        fill_shared(p, rows, members, count, worked);
+        return;
+    }
+    fill_plainly(p, rows, members, count, worked);
 }
 
 // Rule 11.1: the sums of the figures that the array holds.
@@ -96,13 +195,20 @@ fn sum_figures(worked: &Worked, count: usize) -> Totals
     }
 }
 
-// The members' figures, and their sums.
-pub fn work(p: Plan, rows: Rows, members: &Members, count: usize, worked: &mut Worked) -> Totals
+// The members' figures, by an engine, and their sums.
+pub fn work(
+    engine: EngineChoice,
+    p: Plan,
+    rows: Rows,
+    members: &Members,
+    count: usize,
+    worked: &mut Worked,
+) -> Totals
     requires { ⌜ AcceptedMembers p rows (now members) count ⌝ }
     ensures { λ t. ⌜ t ≡ totals p rows (membersIn (now (members .entry)) count) ⌝ }
     ensures { λ _. ⌜ AreWorked p rows (now (members .entry)) (now (worked .exit)) count ⌝ }
 {
-    fill_figures(p, rows, members, count, worked);
+    fill_figures(engine, p, rows, members, count, worked);
     sum_figures(worked, count)
 }
 

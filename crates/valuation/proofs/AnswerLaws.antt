@@ -10,7 +10,7 @@ use lib.ListN.{length, getD, take}
 use lib.Seq.{take-suc, take-length}
 use Rattle.plan.specs.declared.Plan.{Plan}
 use Rattle.plan.specs.declared.Member.{Member}
-use Rattle.acceptance.proofs.Facts.{member-facts}
+use Rattle.acceptance.proofs.Facts.{id-small, member-facts}
 use Rattle.members.specs.Array.{memberAt, arrayOf}
 use Rattle.members.proofs.ArrayLaws.{array-member}
 use Rattle.walk.specs.Outcome.{Outcome, values, refusal, andThen}
@@ -20,8 +20,10 @@ use Rattle.casefile.specs.declared.Accepting.the-variants.{Accepted as CaseAcce
 use Rattle.casefile.specs.Answers.{acceptingOf, accepting}
 use Rattle.casefile.specs.Stored.{idBeforeAt, rowsAfter, membersAfter, AcceptedArrays}
 use Rattle.casefile.proofs.Arrays.{accepted-case}
-use Rattle.totals.specs.Worked.{membersIn, AcceptedMembers}
+use Rattle.totals.specs.Worked.{membersIn, AcceptedMembers, AreWorked}
+use Rattle.totals.proofs.TotalLaws.{worked-small}
 use Rattle.report.specs.Lines.{printed, refusalLine}
+use Rattle.report.specs.MemberLines.{ShortLines}
 use Rattle.report.proofs.PrintedLaws.{refusal-line-most}
 use Rattle.fitting.specs.declared.Answer.the-variants.{Written, Refused}
 use Rattle.fitting.specs.Fitting.{fitting, answer, buffer}
@@ -43,8 +45,13 @@ accepted-members {p} {n} {rows} {members} a =
     record {
       plan = a .plan;
       few = a .few;
+      id = λ j h. id-small p rows (idBeforeAt members j) (memberAt members j) (a .member j h);
       member = λ j h. member-facts p rows (idBeforeAt members j) (memberAt members j) (a .plan) (a .member j h);
     }
+
+-- an array that holds their figures makes short lines
+pub short-lines : (p : Plan) (rows members worked : List (List ℕ)) (n : ℕ) → AcceptedMembers p rows members n → AreWorked p rows members worked n → ShortLines members worked n
+short-lines p rows members worked n a is j h = (a .id j h, worked-small p rows members worked n a is j h)
 
 valued-by : (o : Outcome Case) (room : ℕ) {p : Plan} {n : ℕ} {rows : List (List ℕ)} {members : List (List ℕ)} (oldRows : List (List ℕ)) (oldMembers : List (List ℕ)) → ((c : Case) → o ≡ values c → AcceptedCase c) → CaseAccepted p n ≡ accepting o → rows ≡ rowsAfter o oldRows → members ≡ membersAfter o oldMembers → fitting room (printed p rows (membersIn members n)) ≡ andThen o (λ c. fitting room (printed (c .plan) (c .rows) (c .members)))
 valued-by (values c) room {p} {n} oldRows oldMembers is said table array =

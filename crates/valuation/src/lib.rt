@@ -1,7 +1,7 @@
 // The valuation of a whole plan, as text: RULES sections 12 and 13. The figures and their totals are the crate totals', the
-// lines the crate report's, and that they are written where they fit is the crate fitting's. The entries are value_case
-// and print_case, and those of the layers below, which are passed on: refusal_line, read_case, accept_case, accept_plan,
-// accept_member, value_member. None has a `requires`.
+// lines the crate report's, and that they are written where they fit is the crate fitting's. The entries are value_case,
+// value_case_by and print_case, and those of the layers below, which are passed on: refusal_line, read_case, accept_case,
+// accept_plan, accept_member, value_member. None has a `requires`.
 pub use acceptance::Acceptance;
 pub use acceptance::accept_member;
 pub use acceptance::accept_plan;
@@ -21,6 +21,7 @@ use plan::Members;
 pub use plan::Plan;
 use rates::AGES;
 use rates::Rows;
+pub use totals::EngineChoice;
 use totals::supplemental_of;
 use totals::unfunded_of;
 use totals::work;
@@ -38,22 +39,37 @@ pub fn value_case(case: &[u8], out: &mut [u8]) -> Answer
     ensures { λ r. ⌜ r ≡ answer (valuedOf (length (now (out .entry))) (now (case .entry))) ⌝ }
     ensures { λ _. ⌜ now (out .exit) ≡ buffer (valuedOf (length (now (out .entry))) (now (case .entry))) (now (out .entry)) ⌝ }
 {
+    value_case_by(EngineChoice::ByCount, case, out)
+}
+
+// The same by an engine that the caller chooses: the answer and every byte are those.
+pub fn value_case_by(engine: EngineChoice, case: &[u8], out: &mut [u8]) -> Answer
+    ensures { λ r. ⌜ r ≡ answer (valuedOf (length (now (out .entry))) (now (case .entry))) ⌝ }
+    ensures { λ _. ⌜ now (out .exit) ≡ buffer (valuedOf (length (now (out .entry))) (now (case .entry))) (now (out .entry)) ⌝ }
+{
     let mut rows = [[0u32; 4]; AGES];
     let mut members = [[0u64; 4]; MOST_MEMBERS];
     match accept_case(case, &mut rows, &mut members) {
-        Accepting::Accepted(p, count) => value_accepted(p, rows, &members, count, out),
+        Accepting::Accepted(p, count) => value_accepted(engine, p, rows, &members, count, out),
         Accepting::Refused(number, line) => Answer::Refused(number, line),
     }
 }
 
 // Values an accepted case.
-fn value_accepted(p: Plan, rows: Rows, members: &Members, count: u64, out: &mut [u8]) -> Answer
+fn value_accepted(
+    engine: EngineChoice,
+    p: Plan,
+    rows: Rows,
+    members: &Members,
+    count: u64,
+    out: &mut [u8],
+) -> Answer
     requires { ⌜ AcceptedMembers p rows (now members) count ⌝ }
     ensures { λ r. ⌜ r ≡ answer (fitting (length (now (out .entry))) (printed p rows (membersIn (now (members .entry)) count))) ⌝ }
     ensures { λ _. ⌜ now (out .exit) ≡ buffer (fitting (length (now (out .entry))) (printed p rows (membersIn (now (members .entry)) count))) (now (out .entry)) ⌝ }
 {
     let mut worked = [[0u64; 4]; MOST_MEMBERS];
-    let totals = work(p, rows, members, count as usize, &mut worked);
+    let totals = work(engine, p, rows, members, count as usize, &mut worked);
     let unfunded = unfunded_of(totals.liability, p.assets);
     let supplemental = supplemental_of(unfunded, p.interest, p.years);
     fit_lines(out, members, &worked, count, totals, unfunded, supplemental)

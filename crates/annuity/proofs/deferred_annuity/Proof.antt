@@ -10,11 +10,11 @@ use Rattle.annuity.proofs.deferred_annuity.Tie as tie
 
 fill-requires : tie.Need-fill-requires
 fill-requires c κs =
-    let s = c .before in
+    let s = c .before .before .before in
     let a = s .args in
-    (s .pre .0, s .pre .1, s .pre .2, s .pre .3, omega (arith, c .pension .ensures, pension-most (basis (a .rows) (a .r) (a .i)) (basis-fair (a .rows) (a .r) (a .i)) (s .pre .3)))
+    (s .pre .0, s .pre .1, s .pre .2, s .pre .3, omega (arith, c .before .pension .ensures, pension-most (basis (a .t1) (a .r) (a .i)) (basis-fair (a .t1) (a .r) (a .i)) (s .pre .3)))
 
 pub deferred-annuity-spec : {M : Type 1} → statement M
 deferred-annuity-spec =
     tie.close (tie.spec (λ c κs. search needs) fill-requires
-    (λ c. deferred-filled _ (rw (c .before .pension .ensures) at (c .fill .ensures))))
+    (λ c. deferred-filled _ (rw (c .before .before .pension .ensures) at (c .fill .ensures))))

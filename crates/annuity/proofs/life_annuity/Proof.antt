@@ -1,10 +1,7 @@
--- `annuity::life_annuity` meets its contract: A is a case of the one factor.
+-- `annuity::life_annuity` meets its contract.
 use borrow.Author.Needs.{needs}
-use Rattle.annuity.specs.Factors.{A}
-use Rattle.annuity.specs.Filled.{paidOf, factor}
 use Rattle.annuity.proofs.life_annuity.Statement.{statement}
 use Rattle.annuity.proofs.life_annuity.Tie as tie
 
 pub life-annuity-spec : {M : Type 1} → statement M
-unfolding factor paidOf A
-life-annuity-spec = tie.close (tie.spec (λ c κs. search needs) (λ c. c .fill .ensures))
+life-annuity-spec = tie.close (tie.spec (λ c κs. search needs) (λ c. c .life-of .ensures))

@@ -8,7 +8,7 @@ returns : tie.Need-returns
 unfolding pension
 returns c =
     let s = c .before in
-    c .life-annuity .ensures .upto (s .args .r) (s .pre .2) (s .pre .3)
+    c .life-of .ensures .upto (s .args .r) (s .pre .2) (s .pre .3)
 
 pub pension-spec : {M : Type 1} → statement M
 pension-spec = tie.close (tie.spec (λ c κs. search needs) (search needs) (search needs) (search needs) returns)

@@ -6,10 +6,10 @@ use Rattle.fitting.proofs.refusal_line.Statement.{statement}
 use Rattle.fitting.proofs.refusal_line.Tie as tie
 
 returns : tie.Need-returns
-returns c = too-long (c .before .before .before .before .before .args .out .now) (c .before .before .write-refusal .ensures) (omega (arith, c .if1 .taken))
+returns c = too-long (c .before .before .before .before .before .args .out .now) _ (omega (arith, c .before .before .write-refusal .ensures .ends, c .if1 .taken))
 
 returns-2 : tie.Need-returns-2
-returns-2 c = written (c .before .before .before .before .before .before .write-refusal .ensures) (omega (arith, c .before .before .before .before .if1 .left)) (c .before .before .write-refusal2 .ensures)
+returns-2 c = written (omega (arith, c .before .before .before .before .before .before .write-refusal .ensures .ends, c .before .before .before .before .if1 .left)) (c .before .before .write-refusal2 .ensures)
 
 pub refusal-line-spec : {M : Type 1} → statement M
 refusal-line-spec =

@@ -27,9 +27,9 @@ sum-figures-spec =
     tie.close
     (tie.spec Inv-loop μ-loop (λ c. let w = c .args .worked .now in (omega arith, sum-none (λ f. f .value) w, sum-none (λ f. f .cost) w, sum-none (λ f. f .liability) w))
     (λ c κs. omega (arith, c .before .before .pre .0))
-    (λ c. let l = c .before .before .before .loop in omega (arith, sum-fits (λ f. f .value) _ _ _ (c .before .before .loop-test .taken) (c .before .before .before .before .pre .0) (λ i h. c .before .before .before .before .pre .1 i h .0) (l .inv .1) (c .before .figures-at .ensures)))
-    (λ c. let l = c .before .before .before .before .loop in omega (arith, sum-fits (λ f. f .cost) _ _ _ (c .before .before .before .loop-test .taken) (c .before .before .before .before .before .pre .0) (λ i h. c .before .before .before .before .before .pre .1 i h .1) (l .inv .2) (c .before .before .figures-at .ensures)))
-    (λ c. let l = c .before .before .before .before .before .loop in omega (arith, sum-fits (λ f. f .liability) _ _ _ (c .before .before .before .before .loop-test .taken) (c .before .before .before .before .before .before .pre .0) (λ i h. c .before .before .before .before .before .before .pre .1 i h .2) (l .inv .3) (c .before .before .before .figures-at .ensures)))
+    (λ c. let l = c .before .before .before .loop in omega (arith, sum-fits (λ f. f .value) _ _ _ (c .before .before .loop-test .taken) (c .before .before .before .before .pre .0) (λ i h. c .before .before .before .before .pre .1 i h .1) (l .inv .1) (c .before .figures-at .ensures)))
+    (λ c. let l = c .before .before .before .before .loop in omega (arith, sum-fits (λ f. f .cost) _ _ _ (c .before .before .before .loop-test .taken) (c .before .before .before .before .before .pre .0) (λ i h. c .before .before .before .before .before .pre .1 i h .2) (l .inv .2) (c .before .before .figures-at .ensures)))
+    (λ c. let l = c .before .before .before .before .before .loop in omega (arith, sum-fits (λ f. f .liability) _ _ _ (c .before .before .before .before .loop-test .taken) (c .before .before .before .before .before .before .pre .0) (λ i h. c .before .before .before .before .before .before .pre .1 i h .3) (l .inv .3) (c .before .before .before .figures-at .ensures)))
     (λ c. search needs)
     (λ c. search needs)
     again

@@ -13,4 +13,4 @@ returns c =
 pub work-spec : {M : Type 1} → statement M
 work-spec =
     tie.close
-    (tie.spec (λ c κs. c .before .pre) (λ c κs. (c .before .before .before .pre .few, worked-small (c .before .before .before .args .p) (c .before .before .before .args .rows) (c .before .before .before .args .members .now) (c .before .fill-figures .last .1 .1 .1 .1 .0) (c .before .before .before .args .count) (c .before .before .before .pre) (c .before .fill-figures .ensures))) returns)
+    (tie.spec (λ c κs. c .before .pre) (λ c κs. (c .before .before .before .pre .few, worked-small (c .before .before .before .args .p) (c .before .before .before .args .rows) (c .before .before .before .args .members .now) (c .before .fill-figures .last .1 .1 .1 .1 .1 .0) (c .before .before .before .args .count) (c .before .before .before .pre) (c .before .fill-figures .ensures))) returns)

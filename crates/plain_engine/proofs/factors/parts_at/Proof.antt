@@ -1,8 +1,6 @@
 -- `plain_engine::factors::parts_at` meets its contract.
-use mathlib.Core.Path.{_∙_}
 use native.Mathlib.Nat.{le-refl, le-of-lt}
-use Rattle.parts.specs.Parts.{partsAt}
-use Rattle.costs.proofs.Needs.{in-table, workable}
+use Rattle.costs.proofs.Needs.{workable}
 use borrow.Author.Needs.{needs}
 use Rattle.plain_engine.proofs.factors.parts_at.Statement.{statement}
 use Rattle.plain_engine.proofs.factors.parts_at.Tie as tie
@@ -13,27 +11,10 @@ deferred-annuity-requires c κs =
     let a = s .args in
     workable (a .p) (a .rows .now) (a .m) (s .pre .0) (a .p .retire) (le-of-lt (s .pre .0 .in-range .enters)) (le-refl (a .p .retire))
 
-of-age-requires : tie.Need-of-age-requires
-of-age-requires c κs =
-    let s = c .before .before .before .before in
-    in-table (s .args .p) (s .args .rows .now) (s .args .m) (s .pre .0) (s .args .k) (s .pre .1) (s .pre .2)
-
-of-age-requires-2 : tie.Need-of-age-requires-2
-of-age-requires-2 c κs =
-    let s = c .before .before .before .before .before .before in
-    let a = s .args in
-    in-table (a .p) (a .rows .now) (a .m) (s .pre .0) (a .m .entry) (le-refl (a .m .entry)) (le-of-lt (s .pre .0 .in-range .enters))
-
-returns : tie.Need-returns
-unfolding partsAt
-returns c =
-    let late = c .before .before .before in
-    let early = late .before .before in
-    let s = early .before .before .before .before .before in
-    let G-is = early .before .before .before .deferred-annuity .ensures .upto in
-    let here = early .of-age .ensures ∙ G-is (s .args .k) (in-table (s .args .p) (s .args .rows .now) (s .args .m) (s .pre .0) (s .args .k) (s .pre .1) (s .pre .2) .0) (s .pre .2) in
-    let entry = late .of-age2 .ensures ∙ G-is (s .args .m .entry) (s .pre .0 .in-range .grown) (le-of-lt (s .pre .0 .in-range .enters)) in
-    λ i. record { benefit = early .before .before .accrued-benefit .ensures i; deferred = here i; entered = entry i; earned = c .before .before .earned .ensures i; added = c .before .added .ensures i; divisor = c .divisor .ensures i }
+temporary-requires-2 : tie.Need-temporary-requires-2
+temporary-requires-2 c κs =
+    let s = c .before .before .before in
+    (s .pre .0, le-of-lt (s .pre .0 .in-range .enters), le-refl (s .args .p .retire))
 
 pub parts-at-spec : {M : Type 1} → statement M
 parts-at-spec =
@@ -41,9 +22,6 @@ parts-at-spec =
     (tie.spec
     deferred-annuity-requires
     (λ c κs. search needs)
-    of-age-requires
-    of-age-requires-2
+    temporary-requires-2
     (λ c κs. search needs)
-    (λ c κs. search needs)
-    (λ c κs. search needs)
-    returns)
+    (λ c. search needs))

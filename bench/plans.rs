@@ -1,0 +1,64 @@
+//! The case files that bench/run values: plans with members as many as wished, or of all pairs of ages; and drawn plans.
+use crate::files::{Random, case, member, member_aged, row};
+use crate::reader::MEMBERS;
+
+pub const METHODS: [&str; 5] = ["AB", "BD", "BP", "CD", "CP"];
+
+/// A final average over 5 years, retirement at 65.
+pub fn measured(method: &str, members: usize) -> Vec<u8> {
+    case(&measured_heading(65, method), members, row, member)
+}
+
+/// 1,000 members by the same terms, retirement at 75, whose entry age and age are spread evenly over the 1,890 pairs
+/// that there are: every end age occurs.
+pub fn all_pairs(method: &str) -> Vec<u8> {
+    let pairs: Vec<(usize, usize)> = (15..75).flat_map(|entry| (entry..=75).map(move |age| (entry, age))).collect();
+    let paired = |j: usize| {
+        let (entry, age) = pairs[j * pairs.len() / MEMBERS];
+        member_aged(j, entry, age)
+    };
+    case(&measured_heading(75, method), MEMBERS, row, paired)
+}
+
+/// A file of another plan and members; some of its numbers are out of range now and then.
+pub fn drawn(random: &mut Random) -> Vec<u8> {
+    let retire = 50 + random.below(26);
+    let salaries = [60_000, 60_000, 60_000, 1_000_010][random.below(4)];
+    let terms = terms(random.below(3), random.below(400), 1 + random.below(10));
+    let method = METHODS[random.below(5)];
+    let heading = heading(random.below(2_020), retire, &terms, method, random.below(9_000_000), 1 + random.below(40));
+    let seed = random.below(1 << 40);
+    let [withdrawal, disability] =
+        if seed % 2 == 0 { [seed % 60_011, seed % 9_001] } else { [seed % 999_983, seed % 999_979] };
+    let rows = |age: usize| {
+        let weight = 1_000 + (1 + seed % 801) * (age - 15);
+        match age {
+            120 => format!("row=120,1000000,0,0,{weight}\n"),
+            _ => format!("row={age},{},{withdrawal},{disability},{weight}\n", age * age * age / 4),
+        }
+    };
+    let members = |j: usize| {
+        let draw = |j: usize| (seed >> (3 * j % 24)) + 13 * j;
+        let entry = 15 + draw(j) % (retire - 15);
+        let age = entry + draw(j + 1) % (retire - entry + 1);
+        format!("member={},{entry},{age},{}.{:02}\n", 7 * j + 1, draw(j + 2) % salaries, draw(j + 3) % 100)
+    };
+    case(&heading, random.below(8), rows, members)
+}
+
+fn measured_heading(retire: usize, method: &str) -> String {
+    heading(600, retire, &terms(2, 150, 5), method, 250_000_000, 20)
+}
+
+fn heading(interest: usize, retire: usize, terms: &str, method: &str, assets: usize, years: usize) -> String {
+    format!("interest={interest}\nretire={retire}\n{terms}method={method}\nassets={assets}.00\nyears={years}\n")
+}
+
+/// The terms of a formula, of 3.
+fn terms(formula: usize, unit: usize, average: usize) -> String {
+    match formula {
+        0 => format!("formula=flat\nunit={}\naverage=0\n", 20 * unit),
+        1 => format!("formula=career\nunit={unit}\naverage=0\n"),
+        _ => format!("formula=final\nunit={unit}\naverage={average}\n"),
+    }
+}
