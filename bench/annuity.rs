@@ -4,7 +4,7 @@
 //! turns, and the best round of each counts. Exits 1 where their factors differ.
 //!
 //! The same on both sides: a cleared array of 106 places, the year steps from the top age down to 15, and what is
-//! handed out. What differs: Rattle's fill gets the rows by value, 1,696 bytes a call, and what is paid each year as a
+//! handed out. What differs: Rattle's annuities get the rows by value, 1,696 bytes a call, and what is paid each year as a
 //! code; Rust's gets a reference, and is compiled for each amount. A year step rounds as bench/rounding says; the two
 //! roundings of staying divide a word by a constant, on both sides.
 mod factors;
@@ -208,5 +208,5 @@ fn main() {
     for case in &cases {
         case.print(&good);
     }
-    println!("what differs: Rattle's fill gets the rows by value, Rust's by reference; each rounds as in bench/rounding");
+    println!("what differs: Rattle's annuities get the rows by value, Rust's by reference; each rounds as in bench/rounding");
 }

@@ -13,8 +13,9 @@
 //!   that out where it fits;
 //! - per member, Rattle makes N and L of the same six numbers by any method: by CD it multiplies by the one year that is
 //!   added, and at x = r by none, where Rust works N and drops it;
-//! - in Rattle the rows go by value, 1,696 bytes, to the functions that document 01 wants so; and each side rounds as in
-//!   bench/rounding, but for the two roundings of staying, which divide a word by a constant on both.
+//! - in Rattle the rows go by value, 1,696 bytes, to the annuities of the plain engine, as document 01 wants it, and by
+//!   reference to the columns of the shared one; and each side rounds as in bench/rounding, but for the two roundings of
+//!   staying, which divide a word by a constant on both.
 mod engines;
 mod entries;
 mod factors;
