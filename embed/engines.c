@@ -1,8 +1,9 @@
 /* engines: how long each export that values takes. They all give the same bytes, so that only the time shows which engine
- * worked them. Reads a case file of many members that is accepted; exits 1 where the plain engine isn't much slower than
- * the shared one, or kuyeshan_value not much faster than the plain one. embed/run builds it; tests/engines.py runs it. */
+ * worked them. Reads a case file of many members that is accepted; exits 1 where the plain engine takes less than so many
+ * times as long as the shared one, as the argument says, or kuyeshan_value more than half of the plain one's time. embed/run builds it; tests/engines.py runs it. */
 #define _POSIX_C_SOURCE 199309L
 #include <stdio.h>
+#include <stdlib.h>
 #include <time.h>
 
 #include "exports.h"
@@ -35,11 +36,12 @@ static void time_all(size_t length, double best[EXPORTS]) {
     }
 }
 
-int main(void) {
+int main(int count, char **arguments) {
     uint64_t line, written;
+    double least = count == 2 ? atof(arguments[1]) : 0;
     size_t length = fread(bytes, 1, sizeof bytes, stdin);
-    if (kuyeshan_value(bytes, length, out, sizeof out, &line, &written) != 0) {
-        puts("the file is refused");
+    if (least <= 0 || kuyeshan_value(bytes, length, out, sizeof out, &line, &written) != 0) {
+        puts("there is no argument, or the file is refused");
         return 1;
     }
     double best[EXPORTS];
@@ -49,11 +51,11 @@ int main(void) {
         printf("%s%s %.0f", j > 0 ? ", " : "", exports[j].name, best[j]);
     }
     printf(" microseconds; plain %.1f times shared, value %.2f times plain\n", plain_to_shared, value_to_plain);
-    if (plain_to_shared < 3) {
-        puts("value_plain takes less than 3 times as long as value_shared");
+    if (plain_to_shared < least) {
+        printf("value_plain takes less than %.1f times as long as value_shared\n", least);
     }
     if (value_to_plain > 0.5) {
         puts("value takes more than half as long as value_plain");
     }
-    return plain_to_shared < 3 || value_to_plain > 0.5;
+    return plain_to_shared < least || value_to_plain > 0.5;
 }

@@ -1,4 +1,5 @@
-/* The exports that value a case file, by name: what answers.c and rooms.c hold one of them to, they hold all to. */
+/* The exports that value a case file, by name: what answers.c and rooms.c hold one of them to, they hold all to, and
+ * engines.c times each. */
 #ifndef EXPORTS_H
 #define EXPORTS_H
 

@@ -3,8 +3,8 @@
     python3 tests/engines.py --check    runs target/embed/engines-c, which embed/run builds, on files of many members
 
 The plain engine works the factors anew for each member, so on a file of 1,000 it takes many times as long as the shared
-one, which kuyeshan_value has to take there. How much must be between them is said in embed/engines.c; it is much less
-than what is measured, for a busy machine to pass.
+one, which kuyeshan_value has to take there. How many times as long it must take is about half of what is measured, for a
+busy machine to pass.
 """
 import random
 import subprocess
@@ -18,13 +18,13 @@ from value_files import case_file
 
 PROGRAM = Path(__file__).parent.parent / 'target' / 'embed' / 'engines-c'
 # By AB the engines share least, G alone; by CD also T, for each end age.
-SHARING = CD, AB
+LEAST = {CD: 6, AB: 4}
 
 
 def timed(method):
     """What the program says of a file by this method."""
     case = case_file(*of_many(random.Random(13), method))
-    ran = subprocess.run([PROGRAM], input=case, stdout=subprocess.PIPE)
+    ran = subprocess.run([PROGRAM, str(LEAST[method])], input=case, stdout=subprocess.PIPE)
     said = f'by {METHOD_NAMES[method]} {ran.stdout.decode().strip()}'
     if ran.returncode:
         sys.exit(f'engines: {said}')
@@ -32,7 +32,7 @@ def timed(method):
 
 
 def check():
-    print(f'engines: of {MOST_MEMBERS} members {"; ".join(map(timed, SHARING))}')
+    print(f'engines: of {MOST_MEMBERS} members {"; ".join(map(timed, LEAST))}')
 
 
 if __name__ == '__main__':

@@ -2,8 +2,8 @@
 // The crate `rates` has the table, and staying by its rows; specs/Factors.antt the factors, rounded and exact, in the
 // rules' letters; specs/Accuracy.antt how far apart the two lie. Here they are worked: the rows go by value to the functions
 // of A, G, T and Z, and by reference to the one fill, downward from the last age, that serves them all. An array has a place
-// for each of the 106 ages; age k stands at place k - 15. columns.rt keeps T and Z for all who need them. Each `requires` is
-// what an accepted plan shows.
+// for each of the 106 ages; age k stands at place k - 15. columns.rt keeps T and Z for all who need them, over the same fill.
+// Each `requires` is what an accepted plan shows.
 pub mod columns;
 
 use rates::AGES;

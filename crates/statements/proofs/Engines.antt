@@ -22,7 +22,7 @@ use Rattle.totals.specs.Totals.{total, unfunded, supplemental}
 use Rattle.report.specs.Lines.{memberLine, memberLines, printed}
 use Rattle.fitting.specs.Fitting.{fitting, answer, buffer}
 use Rattle.valuation.specs.Answers.{valuedOf}
-use Rattle.statements.specs.Engines.{Engine, GivesParts, plainly, figuresFromKept, figuresBy, totalOf, linesOf, printedOf, valuedBy, Engines-Agree}
+use Rattle.statements.specs.Engines.{Engine, GivesParts, by-definition, figuresFromKept, figuresBy, totalOf, linesOf, printedOf, valuedBy, Engines-Agree}
 
 -- what follows is asked of what was accepted alone
 then-same : {A B : Type 0} (o : Outcome A) (f g : A → Outcome B) → ((a : A) → o ≡ values a → f a ≡ g a) → andThen o f ≡ andThen o g
@@ -74,13 +74,13 @@ module _ (e : Engine) (g : GivesParts e) where
       then-same (acceptingOf case) _ _
       (λ c accepted.
       let rules = accepted-keeps case c accepted .1 in
-      ap (fitting room) (printed-same (c .plan) (c .rows) (c .members) (λ j h. member-facts (c .plan) (c .rows) (idBefore (c .members) j) _ (rules .plan) (rules .member j h)) (g .begins (c .plan) (c .rows) (rules .plan))))
+      ap (fitting room) (printed-same (c .plan) (c .rows) (c .members) (λ j h. member-facts (c .plan) (c .rows) (idBefore (c .members) j) _ (rules .plan) (rules .member j h)) (g .begins (c .plan) (c .rows) (rules .plan) (methodOf (c .plan .method)))))
 
-pub plainly-gives : GivesParts plainly
-plainly-gives =
+pub by-definition-gives : GivesParts by-definition
+by-definition-gives =
     record {
       Right = λ p rows method kept. Unit {0};
-      begins = λ p rows accepted. tt;
+      begins = λ p rows accepted method. tt;
       gives = λ p rows m ranges method k from to kept right. (refl, tt);
     }
 

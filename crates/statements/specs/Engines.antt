@@ -32,20 +32,21 @@ pub record Engine : Type 1 where
   pub parts : Plan → (rows : List (List ℕ)) → Kept → Member → Method → (k : ℕ) → Parts
   pub after : Plan → (rows : List (List ℕ)) → Kept → Member → Method → (k : ℕ) → Kept
 
--- the promise of either engine: what it keeps of an accepted plan is right from the beginning on, in a sense of its own; and wherever it
--- is right, an accepted member has its parts, by each of the five methods and at each age of its own (rule 9.9), and what is kept after it
--- is right again. That is the contract of both `parts_at` (plain_engine/src/factors.rt, shared_engine/src/lib.rt), as a reader can see: the
--- plain one asks nothing of what it keeps, the shared one what `Shared` has
+-- the promise of either engine. `Right` is its own: what must hold of what it keeps. `begins`: of an accepted plan that holds from the
+-- beginning on; for the shared engine `fill_shared` shows it before its loop (totals/src/lib.rt). `gives`: where it holds, an accepted
+-- member has its parts, by each of the five methods and at each age of its own (rule 9.9), and it holds of what is kept after it. That is
+-- the contract of both `parts_at` (plain_engine/src/factors.rt, shared_engine/src/lib.rt), as a reader can see: the plain one keeps nothing, and
+-- the shared one asks and ensures what `Shared` has, for the method that is asked for
 pub record GivesParts (e : Engine) : Type 1 where
   pub Right : Plan → (rows : List (List ℕ)) → Method → e .Kept → Type 0
-  pub begins : (p : Plan) (rows : List (List ℕ)) → planRefusal p rows ≡ 0 → Right p rows (methodOf (p .method)) (e .begins p rows)
+  pub begins : (p : Plan) (rows : List (List ℕ)) → planRefusal p rows ≡ 0 → (method : Method) → Right p rows method (e .begins p rows)
   pub gives : (p : Plan) (rows : List (List ℕ)) (m : Member) → MemberRanges p rows m
       → (method : Method) (k : ℕ) → m .entry ≤ k → k ≤ p .retire → (kept : e .Kept) → Right p rows method kept
       → (e .parts p rows kept m method k ≡ partsAt (settingOf p rows m) k method) × Right p rows method (e .after p rows kept m method k)
 
--- such an engine, for one: it keeps nothing, and gives the parts themselves
-abbrev pub plainly : Engine
-plainly =
+-- such an engine, for one: it keeps nothing, and gives the parts as they are defined
+abbrev pub by-definition : Engine
+by-definition =
     record {
       Kept = Unit {0};
       begins = λ p rows. tt;
@@ -108,7 +109,7 @@ pub record SameAnswers (e e' : Engine) (g : GivesParts e) (g' : GivesParts e') :
   -- so the same answer, and the same bytes in the buffer
   pub answers : (old case : List ℕ) → answer (valuedBy e (length old) case) ≡ answer (valuedBy e' (length old) case)
   pub buffers : (old case : List ℕ) → buffer (valuedBy e (length old) case) old ≡ buffer (valuedBy e' (length old) case) old
-  -- and they are what value_case, value_case_by and the exports promise, of which the three above follow
+  -- and they are what value_case, value_case_by and the exports promise: from this `same` follows, and from that `answers` and `buffers`
   pub promised : (room : ℕ) (case : List ℕ) → valuedBy e room case ≡ valuedOf room case
 
 abbrev pub Engines-Agree : Type 1

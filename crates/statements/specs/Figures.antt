@@ -26,7 +26,7 @@ use Rattle.printing.specs.Amounts.{digits, width, wholeNumber, amount, signedAm
 use Rattle.printing.specs.Lines.{fields, amountsLine, signedLine}
 use Rattle.totals.specs.Totals.{total, unfunded, supplemental}
 use Rattle.report.specs.Lines.{figuresLine, totalLine, planLines, memberLine, memberLines, printed}
-use Rattle.statements.specs.Engines.{plainly, figuresFromKept, figuresBy, totalOf, linesOf, printedOf}
+use Rattle.statements.specs.Engines.{by-definition, figuresFromKept, figuresBy, totalOf, linesOf, printedOf}
 
 -- rule 14.8, the short plan overfunded: no member, and assets of 100.00
 abbrev over-plan : Plan
@@ -52,6 +52,6 @@ unfolding printed memberLines memberLine planLines totalLine figuresLine amounts
 short-lines = refl
 
 -- and by the figures of an engine that gives the parts
-pub short-lines-by : printedOf short-plan (short-member ∷ []) (figuresBy plainly short-plan short (short-member ∷ [])) ≡ printed short-plan short (short-member ∷ [])
+pub short-lines-by : printedOf short-plan (short-member ∷ []) (figuresBy by-definition short-plan short (short-member ∷ [])) ≡ printed short-plan short (short-member ∷ [])
 unfolding printedOf linesOf totalOf figuresFromKept figuresFrom partsAt printed memberLines memberLine total unfunded supplemental figures figuresAt methodOf formulaOf exactBenefit B PV cost N L short able serves stays staying nearest nearestℤ carried step A pension G T C _over_ whole
 short-lines-by = refl

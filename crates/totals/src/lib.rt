@@ -1,6 +1,6 @@
 // The figures of all members and the plan's own: RULES section 11. `work` fills the array of figures by either engine and
 // sums them, one after the other; the text is the crate report's. specs/Totals.antt has the totals, specs/Worked.antt what
-// the array holds.
+// the array holds, and specs/Choice.antt which engine works.
 use annuity::Factors;
 use annuity::columns::Columns;
 use annuity::columns::ENDS;
