@@ -9,4 +9,3 @@ pub mod Sizes
 pub mod Chains
 pub mod Accuracy
 pub mod Filling
-pub mod ColumnLaws

@@ -3,5 +3,4 @@ pub mod Basis
 pub mod Factors
 pub mod Accuracy
 pub mod Filled
-pub mod Columns
 pub mod Figures

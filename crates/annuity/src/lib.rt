@@ -1,11 +1,8 @@
 // The annuity factors, RULES section 8: the year step, and A, G, T, Z and C in billionths.
 // The crate `rates` has the table, and staying by its rows; specs/Factors.antt the factors, rounded and exact, in the
 // rules' letters; specs/Accuracy.antt how far apart the two lie. Here they are worked: the rows go by value to the functions
-// of A, G, T and Z, and by reference to the one fill, downward from the last age, that serves them all. An array has a place
-// for each of the 106 ages; age k stands at place k - 15. columns.rt keeps T and Z for all who need them, over the same fill.
-// Each `requires` is what an accepted plan shows.
-pub mod columns;
-
+// of A, G, T and Z, and by reference to the one fill, downward from the last age, that serves them all and the crate columns.
+// An array has a place for each of the 106 ages; age k stands at place k - 15. Each `requires` is what an accepted plan shows.
 use rates::AGES;
 use rates::FIRST_AGE;
 use rates::Rows;
@@ -61,7 +58,7 @@ fn amount_of(row: [u32; 4], amount: Amount) -> u64
 }
 
 // Rule 8.9: the factor of each age up to `top`, filled downward from `start` there.
-fn fill(rows: &Rows, r: usize, i: u64, amount: Amount, top: usize, start: u64) -> Factors
+pub fn fill(rows: &Rows, r: usize, i: u64, amount: Amount, top: usize, start: u64) -> Factors
     requires { ⌜ Table (now rows) × (i ≤ 2000) × (15 ≤ top) × (top ≤ 120) × (start ≤ ages * Factors·S) ⌝ }
     ensures { λ a. ⌜ Filled (factor (basis (now (rows .entry)) r i) amount top start) top 15 a ⌝ }
 {

@@ -5,7 +5,6 @@ use mathlib.Core.List.{List}
 use Prim.Native.Nat.{ℕ, _+_, _-_, _*_, _≤_, _<_}
 use lib.Dec.{ltb}
 use Rattle.rounding.specs.Nearest.{nearest}
-use Rattle.annuity.specs.Basis.{Basis}
 use Rattle.annuity.specs.Factors.{S, G, T, Z}
 use Rattle.plan.specs.Weights.{summed}
 use Rattle.plan.specs.declared.Plan.{Plan}
@@ -18,14 +17,6 @@ use Rattle.parts.specs.declared.Parts.{Parts}
 use Rattle.costs.specs.Setting.{Setting}
 use Rattle.costs.specs.Costs.{r, W, M}
 use Rattle.costs.specs.Valuation.{settingOf, figuresAt}
-
--- rules 9.5 and 9.6, the temporary annuity from age k up to e that a method counts by: T or Z; the others count by none
-abbrev pub temporary : Basis → Method → (k e : ℕ) → ℕ
-temporary b AB = λ k e. 0
-temporary b BD = λ k e. 0
-temporary b BP = λ k e. 0
-temporary b CD = T b
-temporary b CP = Z b
 
 -- ---- the parts of a setting
 module _ (c : Setting) where

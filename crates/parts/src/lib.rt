@@ -1,9 +1,7 @@
 // The parts of a member's figures at one age, and the figures that they give by any method: RULES section 9. An engine
-// works the annuities; measures.rt makes the parts of them, and here nothing is known of a plan, a table or an age.
+// works the annuities, and the crate measures makes the parts of them; here nothing is known of a plan, a table or an age.
 // specs/Parts.antt has the parts of a setting, and the one law over the five methods, that they give its figures. Each
 // `requires` is what an engine shows.
-pub mod measures;
-
 use costs::Figures;
 use plan::Method;
 ghost use mathlib.Core.Path.{_≡_};

@@ -1,7 +1,7 @@
 // The parts of a member's figures by annuities of its own: G, and T or Z where the method asks for it.
 use annuity::of_age;
+use measures::parts_from;
 use parts::Parts;
-use parts::measures::parts_from;
 use plan::Member;
 use plan::Method;
 use plan::Plan;
@@ -11,7 +11,8 @@ ghost use Prim.Native.Nat.{_≤_};
 ghost use Rattle.annuity.specs.Factors.{T, Z};
 ghost use Rattle.plan.specs.Ranges.{MemberRanges};
 ghost use Rattle.costs.specs.Valuation.{settingOf, planBasis};
-ghost use Rattle.parts.specs.Parts.{temporary as Parts·temporary, partsAt};
+ghost use Rattle.parts.specs.Parts.{partsAt};
+ghost use Rattle.measures.specs.Temporary.{temporary as Temporary·temporary};
 
 // The parts of an accepted member at an age k of its own, by any method.
 pub(crate) fn parts_at(p: Plan, rows: &Rows, m: Member, method: Method, k: usize) -> Parts
@@ -27,7 +28,7 @@ pub(crate) fn parts_at(p: Plan, rows: &Rows, m: Member, method: Method, k: usize
 // T(y,e) for CD and Z(y,e) for CP, for an age e of the member; the other methods count by no annuity.
 fn temporary(p: Plan, rows: &Rows, m: Member, method: Method, e: usize) -> u64
     requires { ⌜ MemberRanges p (now rows) m × (m .entry ≤ e) × (e ≤ p .retire) ⌝ }
-    ensures { λ r. ⌜ r ≡ Parts·temporary (planBasis p (now (rows .entry))) method (m .entry) e ⌝ }
+    ensures { λ r. ⌜ r ≡ Temporary·temporary (planBasis p (now (rows .entry))) method (m .entry) e ⌝ }
 {
     match method {
         Method::AB => 0,

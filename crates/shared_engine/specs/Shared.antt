@@ -4,10 +4,10 @@ use mathlib.Core.List.{List}
 use Prim.Native.Nat.{ℕ}
 use Rattle.annuity.specs.Factors.{G}
 use Rattle.annuity.specs.Filled.{Filled}
-use Rattle.annuity.specs.Columns.{FilledColumns}
+use Rattle.columns.specs.Columns.{FilledColumns}
 use Rattle.plan.specs.declared.Plan.{Plan}
 use Rattle.costs.specs.Valuation.{methodOf, planBasis}
-use Rattle.parts.specs.Parts.{temporary}
+use Rattle.measures.specs.Temporary.{temporary}
 
 -- rule 8.11: G(k) in the place of each age up to r; and of the temporary annuity that the plan's method counts by, a column for each end age
 -- that a member has needed

@@ -2,14 +2,14 @@
 // Z, by CP, stand in columns, each of which is filled when a member first needs it. The crate parts makes the parts of
 // them, as for the plain engine, and the figures. specs/Shared.antt says what is kept between two members.
 use annuity::Factors;
-use annuity::columns::Columns;
-use annuity::columns::Marks;
-use annuity::columns::pay_between;
-use annuity::columns::working_between;
+use columns::Columns;
+use columns::Marks;
+use columns::pay_between;
+use columns::working_between;
 use costs::Figures;
+use measures::parts_from;
 use parts::Parts;
 use parts::figures_from;
-use parts::measures::parts_from;
 use parts::method_of;
 use plan::Member;
 use plan::Method;
@@ -19,10 +19,11 @@ ghost use mathlib.Core.Path.{_≡_};
 ghost use Prim.Native.Nat.{_≤_};
 ghost use Rattle.annuity.specs.Factors.{G};
 ghost use Rattle.annuity.specs.Filled.{Filled};
-ghost use Rattle.annuity.specs.Columns.{FilledColumns, ColumnsKept};
+ghost use Rattle.columns.specs.Columns.{FilledColumns, ColumnsKept};
 ghost use Rattle.plan.specs.Ranges.{MemberRanges};
 ghost use Rattle.costs.specs.Valuation.{planBasis, settingOf, figures};
-ghost use Rattle.parts.specs.Parts.{temporary as Parts·temporary, partsAt};
+ghost use Rattle.parts.specs.Parts.{partsAt};
+ghost use Rattle.measures.specs.Temporary.{temporary as Temporary·temporary};
 ghost use Rattle.shared_engine.specs.Shared.{Shared};
 
 // The figures of an accepted member at its own age, by the plan's method and by the shared annuities.
@@ -55,9 +56,9 @@ fn parts_at(
     columns: &mut Columns,
     marks: &mut Marks,
 ) -> Parts
-    requires { ⌜ MemberRanges p (now rows) m × (m .entry ≤ k) × (k ≤ p .retire) × Filled (G (planBasis p (now rows))) (p .retire) 15 (now g) × FilledColumns (Parts·temporary (planBasis p (now rows)) method) (now columns) (now marks) ⌝ }
+    requires { ⌜ MemberRanges p (now rows) m × (m .entry ≤ k) × (k ≤ p .retire) × Filled (G (planBasis p (now rows))) (p .retire) 15 (now g) × FilledColumns (Temporary·temporary (planBasis p (now rows)) method) (now columns) (now marks) ⌝ }
     ensures { λ q. ⌜ q ≡ partsAt (settingOf p (now (rows .entry)) m) k method ⌝ }
-    ensures { λ _. ⌜ FilledColumns (Parts·temporary (planBasis p (now (rows .entry))) method) (now (columns .exit)) (now (marks .exit)) ⌝ }
+    ensures { λ _. ⌜ FilledColumns (Temporary·temporary (planBasis p (now (rows .entry))) method) (now (columns .exit)) (now (marks .exit)) ⌝ }
     ensures { λ _. ⌜ ColumnsKept (now (columns .entry)) (now (marks .entry)) (now (columns .exit)) (now (marks .exit)) ⌝ }
 {
     let past = temporary(p, rows, m, method, k, columns, marks);
@@ -75,9 +76,9 @@ fn temporary(
     columns: &mut Columns,
     marks: &mut Marks,
 ) -> u64
-    requires { ⌜ MemberRanges p (now rows) m × (m .entry ≤ e) × (e ≤ p .retire) × FilledColumns (Parts·temporary (planBasis p (now rows)) method) (now columns) (now marks) ⌝ }
-    ensures { λ r. ⌜ r ≡ Parts·temporary (planBasis p (now (rows .entry))) method (m .entry) e ⌝ }
-    ensures { λ _. ⌜ FilledColumns (Parts·temporary (planBasis p (now (rows .entry))) method) (now (columns .exit)) (now (marks .exit)) ⌝ }
+    requires { ⌜ MemberRanges p (now rows) m × (m .entry ≤ e) × (e ≤ p .retire) × FilledColumns (Temporary·temporary (planBasis p (now rows)) method) (now columns) (now marks) ⌝ }
+    ensures { λ r. ⌜ r ≡ Temporary·temporary (planBasis p (now (rows .entry))) method (m .entry) e ⌝ }
+    ensures { λ _. ⌜ FilledColumns (Temporary·temporary (planBasis p (now (rows .entry))) method) (now (columns .exit)) (now (marks .exit)) ⌝ }
     ensures { λ _. ⌜ ColumnsKept (now (columns .entry)) (now (marks .entry)) (now (columns .exit)) (now (marks .exit)) ⌝ }
 {
     let r = p.retire as usize;

@@ -2,10 +2,10 @@
 // sums them, one after the other; the text is the crate report's. specs/Totals.antt has the totals, specs/Worked.antt what
 // the array holds, and specs/Choice.antt which engine works.
 use annuity::Factors;
-use annuity::columns::Columns;
-use annuity::columns::ENDS;
-use annuity::columns::Marks;
 use annuity::deferred_annuity;
+use columns::Columns;
+use columns::ENDS;
+use columns::Marks;
 use costs::Figures;
 use plan::MOST_MEMBERS;
 use plan::Member;

@@ -1,7 +1,7 @@
 -- `shared_engine::parts_at` meets its contract.
 use native.Mathlib.Omega.{arith}
 use borrow.Author.Needs.{needs}
-use Rattle.annuity.proofs.ColumnLaws.{kept-twice}
+use Rattle.columns.proofs.ColumnLaws.{kept-twice}
 use Rattle.shared_engine.proofs.parts_at.Statement.{statement}
 use Rattle.shared_engine.proofs.parts_at.Tie as tie
 

@@ -6,7 +6,7 @@ use Rattle.rates.specs.Table.{Table}
 use Rattle.plan.specs.declared.Plan.{Plan}
 use Rattle.plan.specs.declared.Member.{Member}
 use Rattle.plan.specs.Ranges.{MemberRanges}
-use Rattle.annuity.proofs.ColumnLaws.{as-they-were}
+use Rattle.columns.proofs.ColumnLaws.{as-they-were}
 use Rattle.costs.proofs.Needs.{facts}
 use borrow.Author.Needs.{needs}
 use Rattle.shared_engine.proofs.temporary.Statement.{statement}

@@ -2,7 +2,7 @@
 use mathlib.Core.Path.{refl}
 use lib.ListN.{replicate}
 use native.Mathlib.Omega.{arith}
-use Rattle.annuity.proofs.ColumnLaws.{columns-none}
+use Rattle.columns.proofs.ColumnLaws.{columns-none}
 use Rattle.acceptance.proofs.Facts.{plan-facts}
 use borrow.Author.Needs.{needs}
 use Rattle.totals.proofs.fill_shared.Statement.{statement}

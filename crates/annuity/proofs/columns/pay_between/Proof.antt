@@ -1,9 +1,0 @@
--- `annuity::columns::pay_between` meets its contract: Z is a case of the one factor.
-use Rattle.annuity.specs.Factors.{Z}
-use Rattle.annuity.specs.Filled.{paidOf, factor}
-use Rattle.annuity.proofs.columns.pay_between.Statement.{statement}
-use Rattle.annuity.proofs.columns.pay_between.Tie as tie
-
-pub pay-between-spec : {M : Type 1} → statement M
-unfolding factor paidOf Z
-pay-between-spec = tie.close (tie.spec (λ c κs. c .before .before .pre) (λ c. c .between .ensures))

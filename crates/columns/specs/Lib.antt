@@ -1,0 +1,2 @@
+-- What the columns hold.
+pub mod Columns
