@@ -23,7 +23,7 @@ const ROUNDS: usize = 400;
 const DAMAGED: usize = 2_000;
 
 const HEADING: &str =
-    "interest=600\nretire=65\nformula=career\nunit=150\naverage=0\nmethod=BP\nassets=250000000.00\nyears=20\n";
+    "interest=600\nretire=65\npay=12\nformula=career\nunit=150\naverage=0\nmethod=BP\nassets=250000000.00\nyears=20\n";
 
 /// A refusal's number and line, (0, 0) for none.
 type Answer = (u64, u64);

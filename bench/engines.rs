@@ -1,7 +1,7 @@
 //! A member's figures in Rust's u128, for the benches to hold the proved engines to: RULES section 9. They rest on
 //! annuities of one of two forms: `Own`, worked for one member, or `Shared`, worked for all members of a plan.
 use crate::factors::{Factors, LAST, Rows, S, fill, share};
-use crate::reader::{Case, Member, Method, accrued_benefit, place, weights};
+use crate::reader::{Case, MONTHLY, Member, Method, accrued_benefit, place, weights};
 
 pub struct Figures {
     pub benefit: u64,
@@ -103,11 +103,12 @@ impl Annuities for Shared<'_> {
     }
 }
 
-/// G(k) for each age up to r.
+/// G(k) for each age up to r: at r A(r), and 11/24 less where pensions are paid monthly.
 fn deferred_annuity(case: &Case) -> Factors {
     let (r, i) = (case.plan.retire as usize, case.plan.interest);
     let life = fill(&case.rows, r, i, |_| S, LAST, S);
-    fill(&case.rows, r, i, |_| 0, r, life[place(case.plan.retire)])
+    let later = if case.plan.pay == MONTHLY { 458_333_333 } else { 0 };
+    fill(&case.rows, r, i, |_| 0, r, life[place(case.plan.retire)] - later)
 }
 
 /// T(k,e), or Z(k,e) where the plan's method is CP, for each age up to e.

@@ -10,11 +10,11 @@ pub fn form(case: &[u8]) -> Result<(), Refusal> {
     let mut rest = Rest(case);
     rest.plan(false)?;
     for age in 15..=120 {
-        rest.line(10, age - 6, |s| row(s, age))?;
+        rest.line(10, age - 5, |s| row(s, age))?;
     }
     let mut count = 0;
     loop {
-        let line = count + 115;
+        let line = count + 116;
         if rest.0.starts_with(b"member=") {
             if count == MEMBERS as u64 {
                 return Err(rest.refused(27, line));

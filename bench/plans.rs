@@ -4,7 +4,7 @@ use crate::reader::MEMBERS;
 
 pub const METHODS: [&str; 5] = ["AB", "BD", "BP", "CD", "CP"];
 
-/// A final average over 5 years, retirement at 65.
+/// A final average over 5 years, retirement at 65, pensions paid monthly.
 pub fn measured(method: &str, members: usize) -> Vec<u8> {
     case(&measured_heading(65, method), members, row, member)
 }
@@ -26,7 +26,9 @@ pub fn drawn(random: &mut Random) -> Vec<u8> {
     let salaries = [60_000, 60_000, 60_000, 1_000_010][random.below(4)];
     let terms = terms(random.below(3), random.below(400), 1 + random.below(10));
     let method = METHODS[random.below(5)];
-    let heading = heading(random.below(2_020), retire, &terms, method, random.below(9_000_000), 1 + random.below(40));
+    let (assets, years) = (random.below(9_000_000), 1 + random.below(40));
+    let pay = [1, 12][random.below(2)] + random.below(100) / 99;
+    let heading = heading(random.below(2_020), retire, pay, &terms, method, assets, years);
     let seed = random.below(1 << 40);
     let [withdrawal, disability] =
         if seed % 2 == 0 { [seed % 60_011, seed % 9_001] } else { [seed % 999_983, seed % 999_979] };
@@ -47,11 +49,21 @@ pub fn drawn(random: &mut Random) -> Vec<u8> {
 }
 
 fn measured_heading(retire: usize, method: &str) -> String {
-    heading(600, retire, &terms(2, 150, 5), method, 250_000_000, 20)
+    heading(600, retire, 12, &terms(2, 150, 5), method, 250_000_000, 20)
 }
 
-fn heading(interest: usize, retire: usize, terms: &str, method: &str, assets: usize, years: usize) -> String {
-    format!("interest={interest}\nretire={retire}\n{terms}method={method}\nassets={assets}.00\nyears={years}\n")
+fn heading(
+    interest: usize,
+    retire: usize,
+    pay: usize,
+    terms: &str,
+    method: &str,
+    assets: usize,
+    years: usize,
+) -> String {
+    format!(
+        "interest={interest}\nretire={retire}\npay={pay}\n{terms}method={method}\nassets={assets}.00\nyears={years}\n"
+    )
 }
 
 /// The terms of a formula, of 3.

@@ -5,6 +5,9 @@ use crate::factors::{AGES, FIRST, Row, Rows, nearest_word};
 pub const LARGEST: usize = 65_536;
 pub const MEMBERS: usize = 1_000;
 
+/// The pay of a plan whose pensions are paid monthly; that of a yearly one is 1.
+pub const MONTHLY: u64 = 12;
+
 const MOST_SALARY: u64 = 100_000_000;
 const MOST_BENEFIT: u64 = 100_000_000;
 
@@ -31,6 +34,7 @@ pub enum Method {
 pub struct Plan {
     pub interest: u64,
     pub retire: u64,
+    pub pay: u64,
     pub formula: Formula,
     pub unit: u64,
     pub average: u64,
@@ -155,20 +159,21 @@ impl Rest<'_> {
             [(b"AB", Method::AB), (b"BD", Method::BD), (b"BP", Method::BP), (b"CD", Method::CD), (b"CP", Method::CP)];
         let interest = self.term(ranges, 1, |s| s.keyed(b"interest="), |i| unless(i <= 2_000, 11))?;
         let retire = self.term(ranges, 2, |s| s.keyed(b"retire="), |r| unless((50..=75).contains(&r), 11))?;
-        let formula = self.term(ranges, 3, |s| s.word(b"formula=", &FORMULAS), |_| 0)?;
-        let unit = self.term(ranges, 4, |s| s.keyed(b"unit="), |u| unit_rule(formula, u))?;
-        let average = self.term(ranges, 5, |s| s.keyed(b"average="), |n| average_rule(formula, n))?;
-        let method = self.term(ranges, 6, |s| s.word(b"method=", &METHODS), |_| 0)?;
-        let assets = self.term(ranges, 7, |s| s.assets(), |a| unless(a <= 99_999_999_999_999, 11))?;
-        let years = self.term(ranges, 8, |s| s.keyed(b"years="), |m| unless((1..=40).contains(&m), 11))?;
-        Ok(Plan { interest, retire, formula, unit, average, method, assets, years })
+        let pay = self.term(ranges, 3, |s| s.keyed(b"pay="), |p| unless(p == 1 || p == MONTHLY, 11))?;
+        let formula = self.term(ranges, 4, |s| s.word(b"formula=", &FORMULAS), |_| 0)?;
+        let unit = self.term(ranges, 5, |s| s.keyed(b"unit="), |u| unit_rule(formula, u))?;
+        let average = self.term(ranges, 6, |s| s.keyed(b"average="), |n| average_rule(formula, n))?;
+        let method = self.term(ranges, 7, |s| s.word(b"method=", &METHODS), |_| 0)?;
+        let assets = self.term(ranges, 8, |s| s.assets(), |a| unless(a <= 99_999_999_999_999, 11))?;
+        let years = self.term(ranges, 9, |s| s.keyed(b"years="), |m| unless((1..=40).contains(&m), 11))?;
+        Ok(Plan { interest, retire, pay, formula, unit, average, method, assets, years })
     }
 
     fn rows(&mut self, ranges: bool) -> Result<Rows, Refusal> {
         let mut rows = [[0; 4]; AGES];
         let mut before = 0;
         for (row, age) in rows.iter_mut().zip(15..) {
-            let read = self.term(ranges, age - 6, |s| s.row(age), |row| row_rule(age, before, row))?;
+            let read = self.term(ranges, age - 5, |s| s.row(age), |row| row_rule(age, before, row))?;
             before = read[3];
             *row = narrow(read);
         }
@@ -180,7 +185,7 @@ impl Rest<'_> {
         let mut before = 0;
         loop {
             let count = members.len() as u64;
-            let line = count + 115;
+            let line = count + 116;
             if self.0.starts_with(b"member=") {
                 if members.len() == MEMBERS {
                     return Err(self.refused(27, line));
@@ -199,7 +204,7 @@ impl Rest<'_> {
         }
     }
 
-    /// Takes a line up to 114, and settles its range too where that is asked for.
+    /// Takes a line up to 115, and settles its range too where that is asked for.
     #[inline(always)]
     fn term<T: Copy>(
         &mut self,

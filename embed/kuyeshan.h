@@ -74,7 +74,8 @@ uint64_t kuyeshan_refusal_line(uint64_t number, uint64_t line, uint8_t *out, siz
 
 /* Values one member of a plan, all as plain numbers.
  *   plan      interest and, but for formula flat, unit in basis points; money in cents:
- *             interest, retire, formula (1 flat, 2 career, 3 final), unit, average,
+ *             interest, retire, pay (1 a pension paid by the year, 12 by the month),
+ *             formula (1 flat, 2 career, 3 final), unit, average,
  *             method (1 AB, 2 BD, 3 BP, 4 CD, 5 CP), assets, years
  *   rows      for each age from 15 to 120 in turn: death, withdrawal and disability in millionths, each the rate of its
  *             cause alone, and the weight
@@ -82,7 +83,7 @@ uint64_t kuyeshan_refusal_line(uint64_t number, uint64_t line, uint8_t *out, siz
  *   figures   in whole cents, halfway to the even cent (rule 6.1): the yearly benefit, its present value, the
  *             normal cost, the liability
  * 0, or the first refusal, from 10 on, which leaves `figures` as they were. */
-uint64_t kuyeshan_value_member(const uint64_t plan[8], const uint32_t rows[424], const uint64_t member[4],
+uint64_t kuyeshan_value_member(const uint64_t plan[9], const uint32_t rows[424], const uint64_t member[4],
                                uint64_t figures[4]);
 
 #ifdef __cplusplus

@@ -6,8 +6,9 @@
 #include "kuyeshan.h"
 
 int main(void) {
-    /* 10 percent, retirement at 65, 100.00 of yearly benefit a year of service, method CD; assets 20.00, 2 years. */
-    const uint64_t plan[8] = {1000, 65, 1, 10000, 0, 4, 2000, 2};
+    /* 10 percent, retirement at 65, paid yearly, 100.00 of yearly benefit a year of service, method CD; assets 20.00,
+     * 2 years. */
+    const uint64_t plan[9] = {1000, 65, 1, 1, 10000, 0, 4, 2000, 2};
     /* Entered at 63 and is 64; a flat plan asks for no salary. */
     const uint64_t member[4] = {7, 63, 64, 0};
     uint32_t rows[424] = {0};

@@ -34,8 +34,8 @@ static int values(size_t length, size_t room, uint64_t number, size_t wrote) {
 static int refuses(size_t room, uint64_t number, size_t wrote) {
     uint64_t written = 1;
     memset(out, FILL, sizeof out);
-    memcpy(lines, "refused=27,1115\n", 16);
-    return kuyeshan_refusal_line(27, 1115, out, room, &written) == number && written == wrote && holds(wrote);
+    memcpy(lines, "refused=27,1116\n", 16);
+    return kuyeshan_refusal_line(27, 1116, out, room, &written) == number && written == wrote && holds(wrote);
 }
 
 int main(void) {

@@ -25,13 +25,14 @@ class Shape(NamedTuple):
     """A plan and a member but for the death rates and the salary. The weight rises once, to `jump` times, at r - 1."""
     interest: int
     retire: int
+    pay: int
     entry: int
     age: int
     jump: int
 
     def plan(self, method):
         # With this formula the benefit reaches its limit even after two years, where pay rises with the weight.
-        return Plan(self.interest, self.retire, FINAL, 500, 1, method, 0, 1)
+        return Plan(self.interest, self.retire, self.pay, FINAL, 500, 1, method, 0, 1)
 
     def weight(self, k):
         return 1000 * self.jump if k >= self.retire - 1 else 1000

@@ -1,7 +1,8 @@
 """Searches for plans whose printed V, N and L stray as far as they can from their exact fractions, by pension.
 
     python3 tests/accuracy_search.py [ROUNDS [SEED]]    prints, by pension and figure, the farthest found
-    python3 tests/accuracy_search.py --write            stores them too, in tests/accuracy_found.tsv: some minutes
+    python3 tests/accuracy_search.py --write            stores those too that are farther than the ones of
+                                                        tests/accuracy_found.tsv, in their place: some minutes
 
 Random plans stray little, since their roundings go up as often as down. Here the death rates are chosen age by age from
 120 down: of some hundred rates, the one with which the year steps of that age round farthest the wanted way. Of the
@@ -18,8 +19,8 @@ from itertools import product
 
 import accuracy_found
 from accuracy_found import PENSIONS, TARGETS, Found, Shape, farthest, reached
-from oracle import (BD, BP, CD, CP, FIRST, FLAT, LAST, MILLION, MOST_BENEFIT, MOST_SALARY, S, Costs, Factors, L, N,
-                    benefit, exact_benefit, nearest, rounded_costs, stray)
+from oracle import (BD, BP, CD, CP, FIRST, FLAT, LAST, MILLION, MOST_BENEFIT, MOST_SALARY, PAYS, S, Costs, Factors, L,
+                    N, benefit, exact_benefit, nearest, rounded_costs, stray)
 
 # The rates tried lie below this one: the fewer leave, the larger is what is valued, and the less an error shrinks on
 # its way down.
@@ -28,7 +29,7 @@ TRIED_RATES = 300
 # Just below the largest: they move the last roundings, and little else.
 TRIED_SALARIES = 150
 # How many shapes are tried once each way, and with how many of these the search goes on.
-TRIED_SHAPES = 12
+TRIED_SHAPES = 24
 KEPT_SHAPES = 3
 
 
@@ -41,11 +42,11 @@ def largest_salary(plan, rows, member, most=MOST_BENEFIT):
 
 
 def shapes():
-    """Short and long service, at its ends and within, level weights and a jump, no interest and the least."""
-    for interest, r, jump in product((0, 1), (50, 60, 75), (1, 2, 5, 10, 20, 100)):
+    """Short and long service, at its ends and within, level weights and a jump, no interest and the least, each pay."""
+    for interest, r, pay, jump in product((0, 1), (50, 60, 75), PAYS, (1, 2, 5, 10, 20, 100)):
         for y in sorted({FIRST, r - 35, r - 20, r - 10, r - 5, r - 4, r - 3, r - 2, r - 1}):
             for x in sorted({y, y + 1, (y + r) // 2, max(y, r - 2), r - 1, r}):
-                yield Shape(interest, r, y, x, jump)
+                yield Shape(interest, r, pay, y, x, jump)
 
 
 # ---- the factors on which a figure rests
@@ -66,8 +67,8 @@ class Part:
 
 def deferred(shape, last):
     """G(last), with A above r."""
-    r = shape.retire
-    return Part(1, LAST, last, S, lambda k: S if k >= r else 0, (LAST + 1 - r) * S)
+    r, later = shape.retire, Factors(shape.plan(CD), None, nearest).later()
+    return Part(1, LAST, last, S, lambda k: 0 if k < r else S - later if k == r else S, (LAST + 1 - r) * S - later)
 
 
 def working(shape, power, end):
@@ -185,7 +186,7 @@ def all_found(rounds=30, seed=1):
 if __name__ == '__main__':
     given = sys.argv[1:]
     if given == ['--write']:
-        accuracy_found.write(list(all_found()))
+        accuracy_found.write([farthest(both) for both in zip(accuracy_found.read(), all_found())])
     elif len(given) <= 2 and all(map(str.isdecimal, given)):
         for _ in all_found(*map(int, given)):
             pass

@@ -3,8 +3,9 @@
     python3 tests/annuity_factors.py --write    writes stdin and stdout of crates/test_annuity_factors
     python3 tests/annuity_factors.py --check    runs target/bin/test_annuity_factors on generated tables and compares
 
-A case is the interest i, the ages r and e, the payments m, and the rows. It goes to the program as bytes, a number's
-little end first, and the program answers with a line for each of A(15..120), G(15..r), T(15..e,e), Z(15..e,e), C(m).
+A case is the interest i, the age r, how often a year a pension is paid, the age e, the payments m, and the rows. It goes
+to the program as bytes, a number's little end first, and the program answers with a line for each of A(15..120),
+G(15..r), T(15..e,e), Z(15..e,e), C(m). It takes any pay that a byte holds, and all but 12 as 1.
 """
 import random
 import struct
@@ -15,7 +16,8 @@ from pathlib import Path
 from types import SimpleNamespace
 
 import commands
-from oracle import AGES, FIRST, LAST, MILLION, Factors, certain, nearest, short_table, table
+from oracle import (AGES, FIRST, LAST, MILLION, MONTHLY, NO_PAYS, PAYS, YEARLY, Factors, certain, nearest, short_table,
+                    table)
 
 ROOT = Path(__file__).parent.parent
 CRATE = ROOT / 'crates' / 'test_annuity_factors'
@@ -25,16 +27,16 @@ PROGRAM = ROOT / 'target' / 'bin' / 'test_annuity_factors'
 class Case:
     """Rows are a dictionary from each age to its death, withdrawal, disability and weight."""
 
-    def __init__(self, i, r, e, m, rows):
-        self.i, self.r, self.e, self.m, self.rows = i, r, e, m, rows
+    def __init__(self, i, r, pay, e, m, rows):
+        self.i, self.r, self.pay, self.e, self.m, self.rows = i, r, pay, e, m, rows
 
     def bytes(self):
-        return struct.pack('<HBBB', self.i, self.r, self.e, self.m) + b''.join(
+        return struct.pack('<HBBBB', self.i, self.r, self.pay, self.e, self.m) + b''.join(
             struct.pack('<4I', *self.rows[k]) for k in AGES)
 
     def lines(self):
         """The lines that the program must write."""
-        of = Factors(SimpleNamespace(interest=self.i, retire=self.r), self.rows, nearest)
+        of = Factors(SimpleNamespace(interest=self.i, retire=self.r, pay=self.pay), self.rows, nearest)
         factors = dict(A=of.A(), G=of.G(), T=of.T(self.e), Z=of.Z(self.e), C={0: certain(self.i, self.m, nearest)})
         return [' '.join([letter] + [str(by_age[k]) for k in sorted(by_age)]) for letter, by_age in factors.items()]
 
@@ -81,40 +83,52 @@ def kinds_of_weights(rng):
 
 
 def generated(rng):
-    """Each kind of rates with each kind of weights, at both ends of the ranges of i and r and between them."""
+    """Each kind of rates with each kind of weights and each pay, at both ends of the ranges of i and r and between them;
+    and other pays, each of which counts as yearly."""
     interests = [lambda: 0, lambda: 2000, lambda: rng.randint(0, 2000)]
     retires = [lambda: 50, lambda: 75, lambda: rng.randint(50, 75)]
     cases = []
-    for interest, retire in product(interests, retires):
+    for interest, retire, pay in product(interests, retires, PAYS):
         for rates, weights in product(kinds_of_rates(rng).values(), kinds_of_weights(rng).values()):
             r = retire()
             e = rng.choice([FIRST, r, rng.randint(FIRST, r)])
             m = rng.choice([0, 1, 40, rng.randint(0, 40)])
-            cases.append(Case(interest(), r, e, m, table(rates, weights)))
-    return cases
+            cases.append(Case(interest(), r, pay, e, m, table(rates, weights)))
+    return cases + [Case(1000, 65, pay, 65, 2, short_table()) for pay in (*NO_PAYS, 255)]
 
 
 def skipped():
     """Cases of which one number is just out of the range that the annuity functions take."""
     cases = [Case(*numbers, short_table())
-             for numbers in [(2001, 65, 65, 2), (1000, 14, 15, 2), (1000, 121, 65, 2), (1000, 65, 14, 2),
-                             (1000, 65, 121, 2), (1000, 65, 65, 41)]]
+             for numbers in [(2001, 65, 1, 65, 2), (1000, 14, 1, 15, 2), (1000, 121, 12, 65, 2), (1000, 65, 1, 14, 2),
+                             (1000, 65, 12, 121, 2), (1000, 65, 12, 65, 41)]]
     for row in [(MILLION + 1, 0, 0, 1000), (0, MILLION + 1, 0, 1000), (0, 0, MILLION + 1, 1000), (2**32 - 1, 1, 0, 1000),
                 (0, 0, 0, 100001)]:
         for age in (FIRST, 64, LAST):
-            cases.append(Case(1000, 65, 65, 2, {**short_table(), age: row}))
+            cases.append(Case(1000, 65, YEARLY, 65, 2, {**short_table(), age: row}))
     return cases
 
 
 def stored():
-    """The cases of the gate: the short table, no removals at no interest, heavy removals at the highest interest."""
+    """The cases of the gate: the short table with each pay, no removals at no interest, heavy removals at the highest
+    interest."""
     rng = random.Random(1)
     heavy, rising = kinds_of_rates(rng)['heavy'], kinds_of_weights(rng)['rising']
     return [
-        Case(1000, 65, 65, 2, short_table()),
-        Case(0, 75, 60, 40, table(lambda k: (0, 0, 0), lambda k: 1000)),
-        Case(2000, 50, 50, 17, table(heavy, rising)),
+        Case(1000, 65, YEARLY, 65, 2, short_table()),
+        Case(1000, 65, MONTHLY, 65, 2, short_table()),
+        Case(0, 75, MONTHLY, 60, 40, table(lambda k: (0, 0, 0), lambda k: 1000)),
+        Case(2000, 50, YEARLY, 50, 17, table(heavy, rising)),
     ]
+
+
+def answers(cases):
+    """The lines that the program writes for each of these, which it doesn't skip."""
+    given = b''.join(case.bytes() for case in cases)
+    lines = subprocess.run([PROGRAM], input=given, stdout=subprocess.PIPE, check=True).stdout.decode().splitlines()
+    if len(lines) != 5 * len(cases):
+        sys.exit(f'annuity_factors: the program writes {len(lines)} lines for {len(cases)} cases')
+    return [lines[at:at + 5] for at in range(0, len(lines), 5)]
 
 
 def text(lines):

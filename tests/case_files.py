@@ -15,7 +15,7 @@ from typing import NamedTuple
 
 import commands
 from case_oracle import Refused, accepting, reading, walk
-from oracle import AGES, FIRST, LAST, short_table
+from oracle import AGES, FIRST, LAST, NO_PAYS, PAYS, short_table
 
 ROOT = Path(__file__).parent.parent
 CRATE = ROOT / 'crates' / 'test_case_answers'
@@ -23,6 +23,8 @@ PROGRAM = ROOT / 'target' / 'bin' / 'test_case_answers'
 PRIME = 1000003
 READING = {1, 2, 3, 4, 10, 20, 27}
 ACCEPTING = READING | {11, 12, 14, 15, 21, 22, 23, 24, 25}
+# The last lines of the heading and of the table (rules 2.1 and 3.1).
+HEADING_END, TABLE_END = 9, 115
 
 # What a field is replaced by.
 DAMAGES = [b'', b'0', b'00', b'01', b'-1', b'+1', b' 1', b'1 ', b'999999999999', b'9999999999999', b'1.00', b'1.0',
@@ -32,8 +34,8 @@ DAMAGES = [b'', b'0', b'00', b'01', b'-1', b'+1', b' 1', b'1 ', b'999999999999',
 # ---- files
 
 def heading(**changed):
-    terms = dict(interest='1000', retire='65', formula='flat', unit='10000', average='0', method='CD', assets='20.00',
-                 years='2')
+    terms = dict(interest='1000', retire='65', pay='1', formula='flat', unit='10000', average='0', method='CD',
+                 assets='20.00', years='2')
     return [f'{key}={value}'.encode() for key, value in {**terms, **changed}.items()]
 
 
@@ -50,13 +52,13 @@ def member(id, entry=63, age=64, salary='0.00'):
 
 
 def good_files():
-    """Of each formula, with no, one and some members."""
+    """Of each formula and each pay, with no, one and some members."""
     table = short_table()
     rising = {age: (death, 10 * age if death == 0 else 0, 0, 1000 + age) for age, (death, *_, _) in table.items()}
     return [
         file(heading(), table, [member(7)]),
         file(heading(), table, []),
-        file(heading(formula='career', unit='200', method='BP'), rising,
+        file(heading(pay='12', formula='career', unit='200', method='BP'), rising,
              [member(1, 20, 40, '10000.00'), member(2, 64, 64, '1000000.00'), member(999999999, 15, 65, '0.01')]),
         file(heading(formula='final', unit='500', average='10', method='CP', interest='0', retire='75', years='40',
                      assets='999999999999.99'), rising, [member(5, 15, 15, '12345.67')]),
@@ -70,6 +72,7 @@ def ranges():
     return [
         *(file(heading(retire=str(r)), level, []) for r in (49, 50, 75, 76)),
         *(file(heading(interest=str(i)), level, []) for i in (2000, 2001)),
+        *(file(heading(pay=str(pay)), level, []) for pay in (*PAYS, *NO_PAYS)),
         *(file(heading(), {**level, 30: (*row, 1000)}, []) for most in (1000000, 1000001)
           for row in ((most, 1, 1), (1, most, 1), (1, 1, most), (most, most, most))),
         *(file(heading(), {**level, 15: (0, 0, 0, weight)}, []) for weight in (999, 1000, 1001)),
@@ -88,7 +91,7 @@ def many(count):
 
 
 def after_a_thousand():
-    """What can stand where line 1,115 is due. Rule 12.4: 2 comes before 27, and 27 before 20."""
+    """What can stand where line 1,116 is due. Rule 12.4: 2 comes before 27, and 27 before 20."""
     full = many(1000)
     full = full[:full.rindex(b'end=')]
     return [full + rest for rest in (b'member=junk\n', b'member=\n', b'member=1001,63,64,0.00', b'member=', b'membe',
@@ -103,10 +106,46 @@ def worked():
     yield file(heading(), level, []), None, None
     yield file(heading(retire='49'), level, []), None, (11, 2)
     yield file(heading(retire='76'), level, []), None, (11, 2)
-    yield file(heading(), {**level, 15: (0, 0, 0, 999)}, []), None, (15, 9)
+    yield file(heading(), {**level, 15: (0, 0, 0, 999)}, []), None, (15, 10)
     yield file(heading(), {**level, 30: (400000, 300000, 300001, 1000)}, []), None, None
-    yield file(heading(), level, [member(7, salary='4125.50.75')]), (20, 115), (20, 115)
-    yield file(final, level, [member(7, 44, 64, '1000000.00')]), None, (25, 115)
+    yield file(heading(), level, [member(7, salary='4125.50.75')]), (20, 116), (20, 116)
+    yield file(final, level, [member(7, 44, 64, '1000000.00')]), None, (25, 116)
+    yield from worked_pays(level)
+
+
+def worked_pays(level):
+    """Line 3, rules 2.10 and 14.23: what it says, and what is refused where the line before or after it is wrong too."""
+    def of(**terms):
+        return file(heading(**terms), level, [])
+
+    for pay in PAYS:
+        yield of(pay=pay), None, None
+    for pay in NO_PAYS:
+        yield of(pay=pay), None, (11, 3)
+        yield of(retire=49, pay=pay), None, (11, 2)
+        yield of(pay=pay, unit=100001), None, (11, 3)
+        yield of(retire='065', pay=pay), (10, 2), (10, 2)
+        yield of(pay=pay, formula='Flat'), (10, 4), (11, 3)
+    for pay in ('', '012', '01', '+1', '-1', ' 1', '1 ', '1.00', '12.00', '1,12', '9999999999999', 'monthly'):
+        yield of(pay=pay), (10, 3), (10, 3)
+        yield of(retire=49, pay=pay), (10, 3), (11, 2)
+        yield of(retire='065', pay=pay), (10, 2), (10, 2)
+        yield of(pay=pay, formula='Flat'), (10, 3), (10, 3)
+    yield from misplaced_pays(of())
+
+
+def misplaced_pays(case):
+    """A good file without its line 3, as files were before there was one; with it a line late; with another one in its
+    place; with it twice; and cut before it and within it."""
+    interest, retire, pay, formula, *rest = case.split(b'\n')
+    others = b'', b'Pay=1', b'pays=1', b'pay1', retire
+    for lines in ([formula], [formula, pay], *([other, formula] for other in others)):
+        yield b'\n'.join([interest, retire, *lines, *rest]), (10, 3), (10, 3)
+    yield b'\n'.join([interest, retire, pay, pay, formula, *rest]), (10, 4), (10, 4)
+    start = case.index(pay)
+    for size in range(start, start + len(pay) + 1):
+        yield case[:size], (2, 3), (2, 3)
+        yield case[:size].replace(b'retire=65', b'retire=49'), (2, 3), (11, 2)
 
 
 def filled(size):
@@ -166,8 +205,8 @@ def stray_bytes(case, rng, count):
 # ---- two faults, one of range and one of form
 
 # What is no whole number, and no amount, whatever the range.
-NO_WHOLE = [b'', b'00', b'01', b'-1', b'+1', b' 1', b'1 ', b'9999999999999', b'1.00', b'1a', b'a', b'\x00', b'\xff',
-            b'1,1']
+NO_WHOLE = [b'', b'00', b'01', b'012', b'-1', b'+1', b' 1', b'1 ', b'9999999999999', b'1.00', b'12.00', b'1a', b'a',
+            b'\x00', b'\xff', b'1,1']
 NO_AMOUNT = [b'', b'0', b'1.0', b'1.000', b'.00', b'01.00', b'-1.00', b'1.00.00', b'4125.50.75', b'1,00',
              b'9999999999999.00']
 
@@ -193,7 +232,8 @@ def two_fault_bases():
     weights rise, so that one can fall."""
     rising = {age: (400000, 700000, 10, 1000 + age) if age < 120 else (1000000, 0, 0, 1120) for age in AGES}
     members = [member(10, 20, 40, '500.00'), member(20, 30, 50, '600.00'), member(30, 25, 60, '700.00')]
-    for terms in (dict(unit='900'), dict(formula='career', unit='500'), dict(formula='final', unit='500', average='3')):
+    for terms in (dict(unit='900'), dict(pay='12', formula='career', unit='500'),
+                  dict(formula='final', unit='500', average='3')):
         yield file(heading(**terms), rising, members).split(b'\n')[:-1]
 
 
@@ -204,52 +244,54 @@ def parts_of(line):
 
 def range_faults(lines):
     """By the lines' kind: heading, rows, members. No amount is over the bound of the assets, so these have none."""
-    formula = lines[2].split(b'=')[1]
+    formula = lines[3].split(b'=')[1]
     head = [(1, b'2001', 11), (1, b'999999999999', 11), (2, b'49', 11), (2, b'76', 11), (2, b'0', 11),
-            (4, b'100001' if formula == b'flat' else b'501', 11), (8, b'0', 11), (8, b'41', 11),
-            *((5, text, 12) for text in ((b'0', b'11') if formula == b'final' else (b'1', b'10')))]
+            *((3, b'%d' % pay, 11) for pay in NO_PAYS), (5, b'100001' if formula == b'flat' else b'501', 11),
+            *((6, text, 12) for text in ((b'0', b'11') if formula == b'final' else (b'1', b'10'))),
+            (9, b'0', 11), (9, b'41', 11)]
     yield [Fault(line, 1, text, number) for line, text, number in head]
-    yield [fault for age in AGES for fault in row_range_faults(age, int(parts_of(lines[age - 7])[5]))]
-    long_service = [] if formula == b'flat' else [Fault(115, 4, b'1000000.00', 25)]
-    yield [*long_service, *(fault for place in range(114, len(lines) - 1) for fault in member_range_faults(lines, place))]
+    yield [fault for line in range(HEADING_END + 1, TABLE_END + 1) for fault in row_range_faults(lines, line)]
+    long_service = [] if formula == b'flat' else [Fault(TABLE_END + 1, 4, b'1000000.00', 25)]
+    members = [fault for line in range(TABLE_END + 1, len(lines)) for fault in member_range_faults(lines, line)]
+    yield long_service + members
 
 
-def row_range_faults(age, weight):
-    line = age - 6
+def row_range_faults(lines, line):
+    _, age, *_, weight = parts_of(lines[line - 1])
     for part in (2, 3, 4):
         yield from (Fault(line, part, text, 11) for text in (b'1000001', b'999999999999'))
     yield from (Fault(line, 5, text, 15) for text in (b'0', b'999', b'100001'))
-    if age > FIRST:
-        yield Fault(line, 5, b'%d' % (weight - 2), 15)
-    if age == LAST:
+    if int(age) > FIRST:
+        yield Fault(line, 5, b'%d' % (int(weight) - 2), 15)
+    if int(age) == LAST:
         yield Fault(line, 2, b'999999', 14)
 
 
-def member_range_faults(lines, place):
-    entry = int(parts_of(lines[place])[2])
-    before = parts_of(lines[place - 1])[1] if place > 114 else b'0'
+def member_range_faults(lines, line):
+    entry = int(parts_of(lines[line - 1])[2])
+    before = parts_of(lines[line - 2])[1] if line > TABLE_END + 1 else b'0'
     said = [(1, b'0', 21), (1, b'1000000000', 21), (1, before, 21), (2, b'14', 22), (2, b'65', 22), (2, b'0', 22),
             (3, b'%d' % (entry - 1), 23), (3, b'66', 23), (4, b'1000000.01', 24), (4, b'999999999999.99', 24)]
-    return [Fault(place + 1, part, text, number) for part, text, number in said]
+    return [Fault(line, part, text, number) for part, text, number in said]
 
 
 def form_faults(lines):
     """By the lines' kind, likewise; the end line is with the members."""
     head, rows, members = [], [], []
-    for place, line in enumerate(lines):
-        key, *values = parts_of(line)
-        faults = head if place < 8 else rows if place < 114 else members
-        number = 10 if place < 114 else 20
-        faults += [Fault(place + 1, 0, text, number) for text in (key[1:], key.upper(), b' ' + key, b'')]
+    for line, text in enumerate(lines, 1):
+        key, *values = parts_of(text)
+        faults = head if line <= HEADING_END else rows if line <= TABLE_END else members
+        number = 10 if line <= TABLE_END else 20
+        faults += [Fault(line, 0, wrong, number) for wrong in (key[1:], key.upper(), b' ' + key, b'')]
         for part, value in enumerate(values, 1):
             if key in (b'formula', b'method'):
                 wrong = [b'', value.swapcase(), value + b' ', value[:-1]]
             else:
                 wrong = NO_AMOUNT if b'.' in value else NO_WHOLE
-            faults += [Fault(place + 1, part, text, number) for text in wrong]
-            faults.append(Fault(place + 1, part, value, 2, cuts=True))
+            faults += [Fault(line, part, text, number) for text in wrong]
+            faults.append(Fault(line, part, value, 2, cuts=True))
         if key == b'row':
-            faults += [Fault(place + 1, 1, b'%d' % age, 10) for age in (int(values[0]) - 1, int(values[0]) + 1)]
+            faults += [Fault(line, 1, b'%d' % age, 10) for age in (int(values[0]) - 1, int(values[0]) + 1)]
     end = len(lines)
     members.append(Fault(end, 1, b'2', 4))
     # Bytes after the end line are the fault of the line after it.
@@ -299,9 +341,10 @@ def two_faults(count, seed=6):
         order = (of_range.line > of_form.line) - (of_range.line < of_form.line)
         files[order].append(both_faults(lines, of_range, of_form))
     lines = many(1001).split(b'\n')[:-1]
-    surplus = Fault(1115, 0, b'member', 27)
-    for of_range in (Fault(2, 1, b'49', 11), Fault(114, 2, b'999999', 14), Fault(115, 1, b'0', 21),
-                     Fault(1114, 2, b'14', 22), Fault(1115, 1, b'0', 21), Fault(1115, 4, b'1000000.01', 24)):
+    surplus = Fault(1116, 0, b'member', 27)
+    for of_range in (Fault(2, 1, b'49', 11), Fault(3, 1, b'13', 11), Fault(115, 2, b'999999', 14),
+                     Fault(116, 1, b'0', 21), Fault(1115, 2, b'14', 22), Fault(1116, 1, b'0', 21),
+                     Fault(1116, 4, b'1000000.01', 24)):
         yield both_faults(lines, of_range, surplus)
     yield with_faults(lines[:200], [Fault(1, 1, b'2001', 11)]).ljust(70000, b'x'), (1, 0), (1, 0)
     for one in files.values():

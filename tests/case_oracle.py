@@ -12,8 +12,9 @@ WHOLE = rb'(0|[1-9][0-9]{0,11})'
 AMOUNT = WHOLE + rb'\.([0-9]{2})'
 WORDS = {b'flat': 1, b'career': 2, b'final': 3, b'AB': 1, b'BD': 2, b'BP': 3, b'CD': 4, b'CP': 5}
 HEADING = [
-    (b'interest=', WHOLE), (b'retire=', WHOLE), (b'formula=', rb'(flat|career|final)'), (b'unit=', WHOLE),
-    (b'average=', WHOLE), (b'method=', rb'(AB|BD|BP|CD|CP)'), (b'assets=', AMOUNT), (b'years=', WHOLE),
+    (b'interest=', WHOLE), (b'retire=', WHOLE), (b'pay=', WHOLE), (b'formula=', rb'(flat|career|final)'),
+    (b'unit=', WHOLE), (b'average=', WHOLE), (b'method=', rb'(AB|BD|BP|CD|CP)'), (b'assets=', AMOUNT),
+    (b'years=', WHOLE),
 ]
 ROW = rb'row=' + rb','.join([WHOLE] * 5)
 MEMBER = rb'member=' + rb','.join([WHOLE] * 3 + [AMOUNT])

@@ -41,7 +41,7 @@ NOBODY = 65534
 GOOD = (EXAMPLES / 'short.case').read_bytes()
 GOOD_LINES = (EXAMPLES / 'short.lines').read_bytes()
 BAD = GOOD.replace(b'member=7,63,64,0.00', b'member=7,63,64,4125.50.75')
-BAD_SAID = (':115: refused 20, neither a member nor an end line, or its form is wrong: "member=7,63,64,4125.50.75" '
+BAD_SAID = (':116: refused 20, neither a member nor an end line, or its form is wrong: "member=7,63,64,4125.50.75" '
             '(the payroll office mends it)\n')
 held, left_out = [], []
 
@@ -119,26 +119,29 @@ def faults():
     yield 1, 0, SENDER, filled(65537)
     yield 1, 0, SENDER, filled(300000)
     yield 2, 1, SENDER, b''
-    yield 2, 116, SENDER, GOOD[:-1]
-    yield 2, 116, SENDER, GOOD[:GOOD.index(b'end=')]
-    yield 3, 117, SENDER, GOOD + b'more\n'
-    yield 3, 117, SENDER, filled(65536)
-    yield 4, 116, SENDER, edited(l116='end=2')
+    yield 2, 117, SENDER, GOOD[:-1]
+    yield 2, 117, SENDER, GOOD[:GOOD.index(b'end=')]
+    yield 3, 118, SENDER, GOOD + b'more\n'
+    yield 3, 118, SENDER, filled(65536)
+    yield 4, 117, SENDER, edited(l117='end=2')
     yield 10, 1, ACTUARY, edited(l1='intrest=1000')
-    yield 10, 3, ACTUARY, edited(l3='')
-    yield 10, 9, ACTUARY, edited(l9='row=16,0,0,0,1000')
+    yield 10, 3, ACTUARY, edited(l3='pay=monthly')
+    yield 10, 3, ACTUARY, GOOD.replace(b'pay=1\n', b'')
+    yield 10, 4, ACTUARY, edited(l4='')
+    yield 10, 10, ACTUARY, edited(l10='row=16,0,0,0,1000')
     yield 11, 2, ACTUARY, edited(l2='retire=49')
-    yield 12, 5, ACTUARY, edited(l5='average=1')
-    yield 14, 114, ACTUARY, edited(l114='row=120,999999,0,0,1100')
-    yield 15, 9, ACTUARY, edited(l9='row=15,0,0,0,999')
-    yield 20, 115, PAYROLL, BAD
-    yield 20, 116, PAYROLL, edited(l116='end=01')
-    yield 21, 115, PAYROLL, edited(l115='member=0,63,64,0.00')
-    yield 22, 115, PAYROLL, edited(l115='member=7,65,65,0.00')
-    yield 23, 115, PAYROLL, edited(l115='member=7,63,66,0.00')
-    yield 24, 115, PAYROLL, edited(l115='member=7,63,64,1000000.01')
-    yield 25, 115, PAYROLL, edited(l3='formula=final', l4='unit=500', l5='average=1', l115='member=7,15,64,1000000.00')
-    yield 27, 1115, PAYROLL, many(1001)
+    yield 11, 3, ACTUARY, edited(l3='pay=4')
+    yield 12, 6, ACTUARY, edited(l6='average=1')
+    yield 14, 115, ACTUARY, edited(l115='row=120,999999,0,0,1100')
+    yield 15, 10, ACTUARY, edited(l10='row=15,0,0,0,999')
+    yield 20, 116, PAYROLL, BAD
+    yield 20, 117, PAYROLL, edited(l117='end=01')
+    yield 21, 116, PAYROLL, edited(l116='member=0,63,64,0.00')
+    yield 22, 116, PAYROLL, edited(l116='member=7,65,65,0.00')
+    yield 23, 116, PAYROLL, edited(l116='member=7,63,66,0.00')
+    yield 24, 116, PAYROLL, edited(l116='member=7,63,64,1000000.01')
+    yield 25, 116, PAYROLL, edited(l4='formula=final', l5='unit=500', l6='average=1', l116='member=7,15,64,1000000.00')
+    yield 27, 1116, PAYROLL, many(1001)
 
 
 def quoted(case, line):
@@ -164,7 +167,7 @@ def check_refused(desk, table):
         numbers.add(number)
     if numbers != ACCEPTING:
         sys.exit(f'desk: the files give the refusals {sorted(numbers)}')
-    hold("the issue's example", run('bad.case', cwd=desk), 1, b'refused=20,115\n', 'bad.case' + BAD_SAID)
+    hold("the issue's example", run('bad.case', cwd=desk), 1, b'refused=20,116\n', 'bad.case' + BAD_SAID)
     hold('an input with no end', run('/dev/zero'), 1, b'refused=1,0\n',
          f'/dev/zero: refused 1, over 65,536 bytes ({SENDER} mends it)\n')
 
@@ -177,9 +180,9 @@ def check_hints(table):
             ('CR LF', ended, 10, 1, rf'"{first}\r"', CR),
             ('CR alone', GOOD.replace(b'\n', b'\r'), 2, 1,
              '"' + GOOD[:80].decode().replace('\n', r'\r') + f'".. of {len(GOOD)} bytes', CR),
-            ('CR LF after a row', edited(l9='row=15,0,0,0,1000\r'), 10, 9, r'"row=15,0,0,0,1000\r"', CR),
-            ('CR LF after a member', edited(l115='member=7,63,64,0.00\r'), 20, 115, r'"member=7,63,64,0.00\r"', CR),
-            ('CR LF at the end', edited(l116='end=1\r'), 20, 116, r'"end=1\r"', CR),
+            ('CR LF after a row', edited(l10='row=15,0,0,0,1000\r'), 10, 10, r'"row=15,0,0,0,1000\r"', CR),
+            ('CR LF after a member', edited(l116='member=7,63,64,0.00\r'), 20, 116, r'"member=7,63,64,0.00\r"', CR),
+            ('CR LF at the end', edited(l117='end=1\r'), 20, 117, r'"end=1\r"', CR),
             ('a byte-order mark', UTF8 + GOOD, 10, 1, rf'"\xef\xbb\xbf{first}"', MARK),
             ('both', UTF8 + ended, 10, 1, rf'"\xef\xbb\xbf{first}\r"', f'{CR}; {MARK}'),
             ('two bytes a letter', b'\xff\xfe' + GOOD.decode().encode('utf-16-le'), 10, 1,
@@ -193,11 +196,11 @@ def check_hints(table):
 def check_besides(table):
     """The same bytes where they aren't the cause: who can mend that is still named."""
     crowd = many(1001).split(b'\n')
-    last = crowd[1114]
-    crowd[1114] += b'\r'
+    last = crowd[1115]
+    crowd[1115] += b'\r'
     for what, case, number, who, where, quote, hint in (
-            ('CR after a member too many', b'\n'.join(crowd), 27, PAYROLL, ':1115', rf': "{last.decode()}\r"', CR),
-            ('CR after the end line', GOOD + b'\r', 3, SENDER, ':117', r': "\r"', CR),
+            ('CR after a member too many', b'\n'.join(crowd), 27, PAYROLL, ':1116', rf': "{last.decode()}\r"', CR),
+            ('CR after the end line', GOOD + b'\r', 3, SENDER, ':118', r': "\r"', CR),
             ('a byte-order mark and too many bytes', UTF8 + filled(65536), 1, SENDER, '', '', MARK)):
         hold(what, run(stdin=case), 1, f'refused={number},{where[1:] or 0}\n'.encode(),
              f'standard input{where}: refused {number}, {table[number][1]}{quote} ({who} mends it; also, {hint})\n')
@@ -205,12 +208,12 @@ def check_besides(table):
 
 def check_quotes():
     """What a terminal would act on is never shown as it is."""
-    begins = 'standard input:115: refused 20, neither a member nor an end line, or its form is wrong: '
+    begins = 'standard input:116: refused 20, neither a member nor an end line, or its form is wrong: '
     for text, shown in ((b'\x1b[31m\x00\xff\x7f\t', r'"\x1b[31m\x00\xff\x7f\t"'), (b'say "\\n"', r'"say \"\\n\""'),
                         (b'm' * 80, '"' + 'm' * 80 + '"'), (b'm' * 81, '"' + 'm' * 80 + '".. of 81 bytes'),
                         (b'm' * 60000, '"' + 'm' * 80 + '".. of 60000 bytes')):
         case = GOOD.replace(b'member=7,63,64,0.00', text)
-        hold(f'the line {shown}', run(stdin=case), 1, b'refused=20,115\n', f'{begins}{shown} ({PAYROLL} mends it)\n')
+        hold(f'the line {shown}', run(stdin=case), 1, b'refused=20,116\n', f'{begins}{shown} ({PAYROLL} mends it)\n')
 
 
 # ---- several files, and folders
@@ -220,7 +223,7 @@ def headed(*pairs):
 
 
 def check_several(desk):
-    good, bad = (b'good.case', GOOD_LINES), (b'bad.case', b'refused=20,115\n')
+    good, bad = (b'good.case', GOOD_LINES), (b'bad.case', b'refused=20,116\n')
     missing = unread('missing.case', errno.ENOENT)
     hold('two', run('good.case', 'good.case', cwd=desk), 0, headed(good, good))
     hold('one refused', run('bad.case', 'good.case', cwd=desk), 1, headed(bad, good), 'bad.case' + BAD_SAID)
@@ -256,7 +259,7 @@ def check_folders(desk):
     (folder / 'b.case').write_bytes(GOOD)
     hold('a folder with one', run('folder', cwd=desk), 0, headed((b'folder/b.case', GOOD_LINES)))
     (folder / 'a.case').write_bytes(BAD)
-    both = headed((b'folder/a.case', b'refused=20,115\n'), (b'folder/b.case', GOOD_LINES))
+    both = headed((b'folder/a.case', b'refused=20,116\n'), (b'folder/b.case', GOOD_LINES))
     hold('a folder with two', run('folder', cwd=desk), 1, both, 'folder/a.case' + BAD_SAID)
     (folder / 'c.case').symlink_to('nowhere')
     hold('a folder with three', run('folder/', cwd=desk), 2, both,
@@ -333,7 +336,7 @@ def check_unwritten(desk):
         hold('a full disk', run('good.case', cwd=desk, stdout=full), 2, b'', unwritten(errno.ENOSPC))
         hold('a full disk for a refusal', run('bad.case', cwd=desk, stdout=full), 2, b'', unwritten(errno.ENOSPC))
         hold('a full disk for the help', run('--help', stdout=full), 2, b'', unwritten(errno.ENOSPC))
-        hold('a full disk for the message', run('bad.case', cwd=desk, stderr=full), 2, b'refused=20,115\n')
+        hold('a full disk for the message', run('bad.case', cwd=desk, stderr=full), 2, b'refused=20,116\n')
     with open(desk / 'out', 'wb') as out:
         filling = run('good.case', cwd=desk, stdout=out,
                       preexec_fn=lambda: resource.setrlimit(resource.RLIMIT_FSIZE, (50, 50)))
@@ -345,7 +348,7 @@ def check_unwritten(desk):
     folder = os.open(desk, os.O_RDONLY)
     hold('standard output that is a folder', run('good.case', cwd=desk, stdout=folder), 2, b'', unwritten(errno.EBADF))
     hold('standard error that is a folder', run('good.case', cwd=desk, stderr=folder), 0, GOOD_LINES)
-    hold('and is wanted', run('bad.case', cwd=desk, stderr=folder), 2, b'refused=20,115\n')
+    hold('and is wanted', run('bad.case', cwd=desk, stderr=folder), 2, b'refused=20,116\n')
     os.close(folder)
     reading, writing = os.pipe()
     os.close(reading)
@@ -553,9 +556,9 @@ def check_broken_program(copy, table):
 
     broken = "standard input: the program failed: what it wrote isn't whole, and is left out\n"
     for answer in (b'', b'\n', GOOD_LINES[:-1], GOOD_LINES[:-7], GOOD_LINES[:GOOD_LINES.index(b'supplemental')],
-                   b'member=7,200.00', b'refused=20,115', b'refused=20\n', b'refused=99,1\n',
-                   *(f'refused={number},115\n'.encode() for number in RETIRED),
-                   b'refused=20,115\nmore\n', GOOD_LINES + b'more'):
+                   b'member=7,200.00', b'refused=20,116', b'refused=20\n', b'refused=99,1\n',
+                   *(f'refused={number},116\n'.encode() for number in RETIRED),
+                   b'refused=20,116\nmore\n', GOOD_LINES + b'more'):
         hold_answer(f'the answer {answer}', answer, 2, b'', broken)
     hold_answer('a program that fails', GOOD_LINES, 2, b'', broken, 'exit 1')
     hold_answer('a program that is killed', GOOD_LINES, 2, b'', broken, f'kill -{int(signal.SIGKILL)} $$')

@@ -3,16 +3,16 @@
     python3 tests/halves.py --write    searches, and stores what it finds in tests/halves.tsv
     python3 tests/halves.py --check    holds the compiled programs to the stored ones
 
-There are two for each place in which something is rounded, but for the two of staying (tests/staying.py): one with an even
-number below the half, which is where it goes, and one with an odd number below, from which it goes up. They are a year step of each factor, the benefit, V, the N
-and the L of each method, and the supplemental payment, below 0 and above. Where a half must go is worked here from the
-quotient itself, and the whole answer of the program by tests/oracle.py.
+With each pay there are two for each place in which something is rounded, but for the two of staying (tests/staying.py):
+one with an even number below the half, which is where it goes, and one with an odd number below, from which it goes up.
+They are a year step of each factor, the benefit, V, the N and the L of each method, and the supplemental payment, below 0
+and above. Where a half must go is worked here from the quotient itself, and the whole answer of the program by
+tests/oracle.py.
 """
 import random
-import subprocess
 import sys
-from collections import Counter
 from fractions import Fraction
+from itertools import product
 from math import gcd
 from pathlib import Path
 from typing import NamedTuple
@@ -21,7 +21,7 @@ import annuity_factors
 import member_figures
 import value_files
 import value_oracle
-from oracle import (CAREER, FINAL, FIRST, FLAT, METHOD_NAMES, METHODS, MILLION, MOST_SALARY, S, Costs, Factors,
+from oracle import (CAREER, FINAL, FIRST, FLAT, METHOD_NAMES, METHODS, MILLION, MOST_SALARY, PAYS, S, Costs, Factors,
                     Member, Plan, certain, exact_benefit, nearest, refusal, table)
 
 STORED = Path(__file__).parent / 'halves.tsv'
@@ -29,6 +29,8 @@ STEPS = 'A', 'G', 'T', 'Z'
 PAYMENTS = {'supplemental above 0': 1, 'supplemental below 0': -1}
 FIGURES = {f'{METHOD_NAMES[method]} {figure}': (figure, method) for method in METHODS for figure in 'NL'}
 PLACES = [*(f'step of {letter}' for letter in STEPS), 'step of C', 'B', 'V', *FIGURES, *PAYMENTS]
+# A place, a pay, and 1 where the number below is odd.
+KINDS = [*product(PLACES, PAYS, (0, 1))]
 
 
 class Found(NamedTuple):
@@ -113,8 +115,8 @@ INTERESTS = 0, 0, 240, 400, 1000, 1200, 2000
 DEATHS = 0, 200000, 500000, 600000, 625000, 750000, 800000, 875000, 900000, 960000
 
 
-def drawn(rng, place):
-    """Halves of B come from pay, and all others from the factors."""
+def drawn(rng, place, pay):
+    """Halves of B come from the salary, and all others from the factors."""
     r = rng.randint(50, 75)
     y = rng.randint(max(FIRST, r - rng.choice([2, 4, 8, 20])), r - 1)
     x = rng.randint(y, r - 1)
@@ -122,6 +124,7 @@ def drawn(rng, place):
     plan = Plan(
         interest=rng.choice(INTERESTS),
         retire=r,
+        pay=pay,
         formula=formula,
         unit=rng.randint(1, 100000 if formula == FLAT else 500),
         average=rng.randint(1, 10) if formula == FINAL else 0,
@@ -132,10 +135,10 @@ def drawn(rng, place):
     return Found(place, plan, member, death=rng.choice(DEATHS), jump=rng.choice([1, 1, 2, 3, 5]))
 
 
-def drawn_payment(rng, place):
+def drawn_payment(rng, place, pay):
     """With the assets that leave an odd part of C unfunded. Below 0 there are no members; above 0 the assets are less than
     the liability of one."""
-    one = drawn(rng, place)
+    one = drawn(rng, place, pay)
     plan = one.plan._replace(interest=rng.randint(0, 2000))
     c = certain(plan.interest, plan.years, nearest)
     cents = c // gcd(c, 2 * S) * rng.randrange(1, 1000, 2)
@@ -145,11 +148,11 @@ def drawn_payment(rng, place):
     return one._replace(plan=plan._replace(assets=max(0, owed - cents)))
 
 
-def found_one(rng, place, parity):
+def found_one(rng, place, pay, parity):
     """The first drawn one that has a half there, with such a number below it, and one above 1."""
     draw = drawn_payment if place in PAYMENTS else drawn
     while True:
-        one = draw(rng, place)
+        one = draw(rng, place, pay)
         number = quotient(one)
         if below(number) > 1 and below(number) % 2 == parity and stands(one, number):
             return one
@@ -157,11 +160,10 @@ def found_one(rng, place, parity):
 
 def search(seed=7):
     rng = random.Random(seed)
-    for place in PLACES:
-        for parity in (0, 1):
-            one = found_one(rng, place, parity)
-            print(place, quotient(one), one, flush=True)
-            yield one
+    for kind in KINDS:
+        one = found_one(rng, *kind)
+        print(*kind, quotient(one), one, flush=True)
+        yield one
 
 
 HEADING = 'place', *Plan._fields, *Member._fields, 'death', 'jump'
@@ -207,9 +209,8 @@ def stepped(found):
     """The step alone: of the factor that the program writes, what isn't added by the year."""
     letter = found.place[-1]
     plan, rows, age = found.plan, found.rows(), found.member.age
-    case = annuity_factors.Case(plan.interest, plan.retire, plan.retire, plan.years, rows)
-    said = subprocess.run([annuity_factors.PROGRAM], input=case.bytes(), stdout=subprocess.PIPE, check=True).stdout
-    lines = said.decode().splitlines()
+    case = annuity_factors.Case(plan.interest, plan.retire, plan.pay, plan.retire, plan.years, rows)
+    lines, = annuity_factors.answers([case])
     if lines != case.lines():
         sys.exit(f'halves: {found}: the factors are not those of the oracle')
     factors = next(line.split()[1:] for line in lines if line[0] == letter)
@@ -220,7 +221,7 @@ def stepped(found):
 
 def check():
     found = list(read())
-    parities = Counter()
+    kinds = []
     for one in found:
         number = quotient(one)
         if not stands(one, number):
@@ -228,10 +229,11 @@ def check():
         if answered(one) != to_even(number):
             sys.exit(f'halves: {one}: {number} is rounded to {answered(one)}')
         printed(one)
-        parities[one.place, below(number) % 2] += 1
-    if parities != Counter((place, parity) for place in PLACES for parity in (0, 1)):
-        sys.exit(f'halves: {STORED.name} has not one of each parity for each place')
-    print(f'halves: {len(found)} halves go to the even one of two, in two cases at each of {len(PLACES)} places')
+        kinds.append((one.place, one.plan.pay, below(number) % 2))
+    if kinds != KINDS:
+        sys.exit(f'halves: {STORED.name} has not one of each parity for each place and pay, in order')
+    print(f'halves: {len(found)} halves go to the even one of two, in two cases with each pay at each of {len(PLACES)} '
+          'places')
 
 
 if __name__ == '__main__':

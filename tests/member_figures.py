@@ -23,8 +23,9 @@ from accuracy_found import TARGETS, named
 from accuracy_search import largest_salary
 from annuity_factors import any_rates, one_takes_all
 from oracle import (AB, AGES, CAREER, CD, CP, FIGURES, FINAL, FIRST, FLAT, FORMULAS, LAST, LIMIT, METHOD_NAMES, METHODS,
-                    MILLION, MOST_ASSETS, MOST_BENEFIT, MOST_SALARY, S, Factors, Member, Plan, benefit, exact_benefit,
-                    exact_costs, nearest, refusal, refusal_of_plan, rounded_costs, sharp_limit, short_table, stray, table)
+                    MILLION, MONTHLY, MOST_ASSETS, MOST_BENEFIT, MOST_SALARY, NO_PAYS, PAYS, S, YEARLY, Factors, Member,
+                    Plan, benefit, exact_benefit, exact_costs, nearest, refusal, refusal_of_plan, rounded_costs,
+                    sharp_limit, short_table, stray, table)
 
 ROOT = Path(__file__).parent.parent
 CRATE = ROOT / 'crates' / 'test_member_figures'
@@ -40,7 +41,7 @@ class Case(NamedTuple):
 
     def bytes(self):
         rows = b''.join(struct.pack('<4I', *self.rows[k]) for k in AGES)
-        return struct.pack('<8Q', *self.plan) + rows + struct.pack('<4Q', *self.member)
+        return struct.pack('<9Q', *self.plan) + rows + struct.pack('<4Q', *self.member)
 
     def figures(self):
         return rounded_costs(*self).figures(self.plan.method, self.member.age)
@@ -59,25 +60,32 @@ def dollars(text):
     return int(text.replace('.', ''))
 
 
+# The short case paid yearly and monthly, rules 14.2 to 14.5 and 14.22: V at 64 and at 63, N and L at 64 by each method,
+# and the N of CP at 63.
+SHORT_CASE = {
+    YEARLY: ('181.82', '165.29', dict(
+        AB=('90.91', '90.91'), BD=('90.91', '90.91'), BP=('95.24', '86.58'), CD=('86.58', '95.24'),
+        CP=('90.91', '90.91')), '82.64'),
+    MONTHLY: ('98.48', '89.53', dict(
+        AB=('49.24', '49.24'), BD=('49.24', '49.24'), BP=('51.58', '46.90'), CD=('46.90', '51.58'),
+        CP=('49.24', '49.24')), '44.76'),
+}
+
+
 def worked():
     """Each case with what the rules say of it: some of its figures, or its refusal."""
-    plan = Plan(1000, 65, FLAT, 10000, 0, CD, 2000, 2)
-    said = {
-        'AB': ('90.91', '90.91'),
-        'BD': ('90.91', '90.91'),
-        'BP': ('95.24', '86.58'),
-        'CD': ('86.58', '95.24'),
-        'CP': ('90.91', '90.91'),
-    }
-    for method, name in METHOD_NAMES.items():
-        case = Case(plan._replace(method=method), short_table(), Member(7, 63, 64, 0))
-        cost, liability = said[name]
-        yield case, dict(benefit='200.00', value='181.82', cost=cost, liability=liability)
-        cost = dict(cost='82.64') if method == CP else {}
-        yield case._replace(member=Member(7, 63, 63, 0)), dict(value='165.29', liability='0.00', **cost)
+    plan = Plan(1000, 65, YEARLY, FLAT, 10000, 0, CD, 2000, 2)
+    for pay, (at_64, at_63, said, cost_of_cp) in SHORT_CASE.items():
+        for method, name in METHOD_NAMES.items():
+            case = Case(plan._replace(pay=pay, method=method), short_table(), Member(7, 63, 64, 0))
+            cost, liability = said[name]
+            yield case, dict(benefit='200.00', value=at_64, cost=cost, liability=liability)
+            cost = dict(cost=cost_of_cp) if method == CP else {}
+            yield case._replace(member=Member(7, 63, 63, 0)), dict(value=at_63, liability='0.00', **cost)
     yield from worked_benefits(plan)
     yield from worked_level()
     yield from worked_bounds(plan)
+    yield from worked_pays(plan)
 
 
 def worked_benefits(plan):
@@ -97,7 +105,7 @@ def level_table():
 
 def worked_level():
     for method in METHODS:
-        case = Case(Plan(0, 65, FLAT, 10000, 0, method, 0, 1), level_table(), Member(1, 35, 45, 0))
+        case = Case(Plan(0, 65, YEARLY, FLAT, 10000, 0, method, 0, 1), level_table(), Member(1, 35, 45, 0))
         yield case, dict(value='168000.00', cost='5600.00', liability='56000.00')
 
 
@@ -116,6 +124,13 @@ def worked_bounds(plan):
         yield Case(final, short_table(), Member(7, 30, 40, dollars(salary))), answer
 
 
+def worked_pays(plan):
+    """Rule 2.10: of a wrong pay, alone or beside a wrong term before it or after it."""
+    for pay in NO_PAYS:
+        for others in (dict(), dict(retire=49), dict(formula=4)):
+            yield Case(plan._replace(pay=pay, **others), short_table(), Member(7, 63, 64, 0)), 11
+
+
 def check_worked():
     """The oracle gives what is worked by hand."""
     for case, said in worked():
@@ -130,15 +145,22 @@ def check_worked():
 
 
 def check_worked_parts():
-    """What is worked by hand beside the figures of a member: rules 14.3, 14.4, 14.7, 14.17, 14.19 and 14.20."""
+    """What is worked by hand beside the figures of a member: rules 14.3, 14.4, 14.7, 14.17, 14.19, 14.20 and 14.22."""
     (plan, rows, member), _ = next(worked())
     ceiling = plan._replace(retire=60, formula=FINAL, unit=500, average=1), rows, Member(7, 30, 40, dollars('666666.67'))
     final = plan._replace(formula=FINAL, unit=200, average=2), rows, member._replace(salary=dollars('10000.00'))
     factors, costs = Factors(plan, rows, nearest), rounded_costs(plan, rows, member)
+    monthly_plan = plan._replace(pay=MONTHLY)
+    monthly = Factors(monthly_plan, rows, nearest)
     parts = {
         'G(64)': (factors.G()[64], 909090909),
         'G(63)': (factors.G()[63], 826446281),
         'T(63,65)': (factors.T(65)[63], 1909090909),
+        'A(65), paid monthly': (monthly.A()[65], S),
+        'G(65), paid monthly': (monthly.G()[65], 541666667),
+        'G(64), paid monthly': (monthly.G()[64], 492424243),
+        'G(63), paid monthly': (monthly.G()[63], 447658403),
+        'the exact G(65), paid monthly': (Factors(monthly_plan, rows, Fraction).G()[65], Fraction(13 * S, 24)),
         'N of CP at 63 before rounding': (Fraction(costs.V(63) * 1000 * S, factors.Z(65)[63]), Fraction('8264.5')),
         'B(64)': (benefit(*final, 64), dollars('181.82')),
         'B(65)': (benefit(*final, 65), dollars('381.82')),
@@ -198,6 +220,7 @@ def drawn_plan(rng):
     return Plan(
         interest=rng.choice([0, 1, 2000, rng.randint(0, 2000)]),
         retire=rng.choice([50, 75, rng.randint(50, 75)]),
+        pay=rng.choice(PAYS),
         formula=formula,
         unit=rng.choice([most_unit, rng.randint(0, most_unit)]),
         average=rng.choice([1, 10, rng.randint(1, 10)]) if formula == FINAL else 0,
@@ -261,7 +284,9 @@ def plan_edges(case):
         method=(1, 5),
         assets=(0, MOST_ASSETS),
         years=(1, 40))
-    return [Change(plan={field: value}) for field, of in ranges.items() for value in edges(*of, 2**64 - 1)]
+    values = {field: edges(*of, 2**64 - 1) for field, of in ranges.items()}
+    values['pay'] = [*PAYS, *NO_PAYS, 2**64 - 1]
+    return [Change(plan={field: value}) for field, of_field in values.items() for value in of_field]
 
 
 def row_edges(case):
@@ -323,7 +348,7 @@ def at_extremes(rng, case):
 
 def all_extreme(case):
     """All fields of the plan, of each row or of the member as large as they can be."""
-    plan, member = Plan(*[2**64 - 1] * 8), Member(*[2**64 - 1] * 4)
+    plan, member = Plan(*[2**64 - 1] * len(Plan._fields)), Member(*[2**64 - 1] * len(Member._fields))
     rows = dict.fromkeys(AGES, (2**32 - 1,) * 4)
     return [Case(plan, rows, member), Case(plan, case.rows, case.member), Case(case.plan, rows, member),
             Case(case.plan, rows, case.member), Case(case.plan, case.rows, member)]
@@ -336,7 +361,7 @@ def at_largest_benefit():
     for service, salary, tenths in ((26, 76923077, 1), (24, 83333333, -4), (30, 66666667, 5),
                                     (33, 60606061, 6.5), (24, 83333334, 8)):
         for method in METHODS:
-            plan = Plan(0, 50, FINAL, 500, 1, method, 0, 1)
+            plan = Plan(0, 50, YEARLY, FINAL, 500, 1, method, 0, 1)
             case = Case(plan, level_table(), Member(1, 50 - service, 40, salary))
             assert 10 * (exact_benefit(*case, 50) - MOST_BENEFIT) == tenths
             yield case
@@ -347,12 +372,23 @@ def extreme_cases():
     for r in (50, 75):
         for weights in (lambda k: 1000, lambda k: 100000, lambda k: 1000 if k < r - 1 else 100000):
             rows = table(lambda k: (0, 0, 0), weights)
-            for method in METHODS:
+            for method, pay in product(METHODS, PAYS):
                 for y in (FIRST, r - 1):
                     for x in sorted({y, y + 1, r - 1, r}):
-                        plan = Plan(0, r, FINAL, 500, 1, method, MOST_ASSETS, 40)
+                        plan = Plan(0, r, pay, FINAL, 500, 1, method, MOST_ASSETS, 40)
                         member = Member(1, y, x, 0)
                         yield Case(plan, rows, member._replace(salary=largest_salary(plan, rows, member)))
+
+
+def at_ends():
+    """Each end of the ranges of interest and retirement age with each pay, where few leave and where all die at r: there
+    a pension is worth no more than a year's payments."""
+    for i, r, pay, method in product((0, 2000), (50, 75), PAYS, METHODS):
+        plan = Plan(i, r, pay, CAREER, 500, 0, method, 0, 40)
+        for last in (LAST, r):
+            rows = table(lambda k: (1000, 2000, 3000) if k < last else (MILLION, 0, 0), lambda k: 1000 + 10 * k)
+            member = Member(1, 30, 40, 0)
+            yield Case(plan, rows, member._replace(salary=largest_salary(plan, rows, member)))
 
 
 def straying_cases():
@@ -361,7 +397,7 @@ def straying_cases():
 
 
 def generated(rng):
-    cases = [*at_largest_benefit(), *extreme_cases(), *straying_cases()]
+    cases = [*at_largest_benefit(), *extreme_cases(), *at_ends(), *straying_cases()]
     for formula in FORMULAS:
         case = drawn_accepted(rng)
         while case.plan.formula != formula:

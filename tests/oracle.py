@@ -17,6 +17,9 @@ MOST_ASSETS = 99999999999999  # 999999999999.99
 MOST_SALARY = 100000000  # 1000000.00
 MOST_BENEFIT = 100000000  # 1000000.00
 
+# How many times a year a pension is paid, and the numbers next to these.
+PAYS = YEARLY, MONTHLY = 1, 12
+NO_PAYS = 0, 2, 11, 13
 FORMULAS = FLAT, CAREER, FINAL = 1, 2, 3
 METHODS = AB, BD, BP, CD, CP = 1, 2, 3, 4, 5
 METHOD_NAMES = {AB: 'AB', BD: 'BD', BP: 'BP', CD: 'CD', CP: 'CP'}
@@ -25,6 +28,7 @@ METHOD_NAMES = {AB: 'AB', BD: 'BD', BP: 'BP', CD: 'CD', CP: 'CP'}
 class Plan(NamedTuple):
     interest: int
     retire: int
+    pay: int
     formula: int
     unit: int
     average: int
@@ -83,9 +87,10 @@ def outside(value, least, most, number):
 
 
 def refusals_of_head(plan):
-    """Of the plan's own lines, in their order: rules 2.2 to 2.9, and rule 5.4 for a code."""
+    """Of the plan's own lines, in their order: rules 2.2, 2.3, 2.10 and 2.4 to 2.9, and rule 5.4 for a code."""
     yield outside(plan.interest, 0, 2000, 11)
     yield outside(plan.retire, 50, 75, 11)
+    yield 0 if plan.pay in PAYS else 11
     yield 0 if plan.formula in FORMULAS else 10
     yield outside(plan.unit, 0, 100000 if plan.formula == FLAT else 500, 11)
     yield outside(plan.average, 1, 10, 12) if plan.formula == FINAL else outside(plan.average, 0, 0, 12)
@@ -162,14 +167,14 @@ def benefit(plan, rows, member, k):
 # ---- factors: RULES section 8
 
 class Factors:
-    """The factors of a plan's interest and retirement age and of its rows, in billionths: rules 8.2 to 8.7.
+    """The factors of a plan's interest, retirement age and pay and of its rows, in billionths: rules 8.2 to 8.7.
 
     `quotient` says what a division gives: `nearest` for the rounded factors, `Fraction` for the exact ones. Each letter
     gives its factors as a dictionary by age, from 15 up to the age that it starts from, and works them once.
     """
 
     def __init__(self, plan, rows, quotient):
-        self.i, self.r, self.rows, self.quotient = plan.interest, plan.retire, rows, quotient
+        self.i, self.r, self.pay, self.rows, self.quotient = plan.interest, plan.retire, plan.pay, rows, quotient
         self.G, self.T, self.Z = cache(self.G), cache(self.T), cache(self.Z)
 
     def W(self, k):
@@ -197,8 +202,13 @@ class Factors:
     def A(self):
         return self.down(LAST, S, lambda k: S)
 
+    def later(self):
+        """By how much G is below A at r, for what is paid later than at a year's start: monthly 11/24, and rounded
+        458333333 (rules 8.5 and 10.1)."""
+        return self.quotient(11 * S, 24) if self.pay == MONTHLY else 0
+
     def G(self):
-        return self.down(self.r, self.A()[self.r], lambda k: 0)
+        return self.down(self.r, self.A()[self.r] - self.later(), lambda k: 0)
 
     def T(self, e):
         return self.down(e, 0, lambda k: S)

@@ -6,7 +6,7 @@ programs after its length and the length of its buffer, 4 bytes each, the little
 import random
 import struct
 
-from case_files import damaged, file, filled, good_files, heading, many, ranges, two_faults
+from case_files import damaged, file, filled, good_files, heading, many, member, ranges, two_faults
 from case_oracle import Refused
 from oracle import short_table
 from value_files import drawn_files, examples, longest
@@ -57,8 +57,8 @@ def rooms(case):
 
 
 def small():
-    """A few files, for what the crate stores: accepted with one member and with none, and refused."""
-    case = good_files()[0]
+    """A few files, for what the crate stores: accepted with one member, paid monthly, and with none, and refused."""
+    case = file(heading(pay='12'), short_table(), [member(7)])
     return [case, file(heading(), short_table(), []), b'', case[:9], case.replace(b'retire=65', b'retire=49')]
 
 

@@ -118,7 +118,7 @@ def files(rng):
 # ---- what the files must have among them, by each method
 
 KINDS = ['one entry age with every age', 'one entry age and one age', 'x = y', 'x = r', 'interest 0', 'interest 2000',
-         'weights that rise a hundredfold', 'nobody leaves', 'all leave', '1000 members']
+         'pay 1', 'pay 12', 'weights that rise a hundredfold', 'nobody leaves', 'all leave', '1000 members']
 COUNTS = [f'{count} members' for count in FEW]
 PAIRS = [(order, r, *pair) for order, r in product(ORDERS, RETIREMENTS) for pair in every_pair(r)]
 
@@ -127,7 +127,7 @@ def kinds(plan, rows, members):
     """Of a file: those of KINDS and COUNTS that it is of."""
     r, ages, entries = plan.retire, [m.age for m in members], [m.entry for m in members]
     staying = {Factors(plan, rows, nearest).P(k) for k in range(FIRST, r)}
-    yield from (f'{len(members)} members', f'interest {plan.interest}')
+    yield from (f'{len(members)} members', f'interest {plan.interest}', f'pay {plan.pay}')
     if len(set(entries)) == 1 and len(ages) > len(set(ages)) == r + 1 - entries[0]:
         yield 'one entry age with every age'
     if len(members) > 1 and len(set(entries)) == len(set(ages)) == 1:

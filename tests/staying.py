@@ -2,21 +2,21 @@
 
     python3 tests/staying.py --check
 
-The program test_annuity_factors shows it. At no interest, and where everybody dies at the next age, its G(k) is a thousand times
-P(k) for an age k below r, and its A(k) less S the same for an age from r on. So P is read off for rows at every edge, for
-rows whose products end in exactly half a millionth, and for drawn ones. What P must be is worked here in fractions, with
-Python's own round of them, which takes a half to the even one of two; tests/oracle.py is held to it too.
+The program test_annuity_factors shows it. At no interest, paid yearly, and where everybody dies at the next age, its G(k)
+is a thousand times P(k) for an age k below r, and its A(k) less S the same for an age from r on. So P is read off for
+rows at every edge, for rows whose products end in exactly half a millionth, and for drawn ones. What P must be is worked
+here in fractions, with Python's own round of them, which takes a half to the even one of two; tests/oracle.py is held to
+it too.
 """
 import random
-import subprocess
 import sys
 from collections import Counter
 from fractions import Fraction
 from itertools import product
 from types import SimpleNamespace
 
-from annuity_factors import PROGRAM, Case, any_rates, one_takes_all
-from oracle import FIRST, MILLION, S, Factors, nearest, table
+from annuity_factors import Case, answers, any_rates, one_takes_all
+from oracle import FIRST, MILLION, S, YEARLY, Factors, nearest, table
 
 AGE = 60
 EDGES = 0, 1, 499999, 500000, 500001, 999999, MILLION
@@ -93,7 +93,7 @@ KINDS = {*product(('a', 'staying'), ('even below', 'odd below')),
 def cases(row):
     """With r an age later, and at the row's age."""
     dying = table(lambda k: (MILLION, 0, 0), lambda k: 1000)
-    return [Case(0, r, FIRST, 0, {**dying, AGE: (*row, 1000)}) for r in (AGE + 1, AGE)]
+    return [Case(0, r, YEARLY, FIRST, 0, {**dying, AGE: (*row, 1000)}) for r in (AGE + 1, AGE)]
 
 
 def shown(below, from_r):
@@ -104,23 +104,20 @@ def shown(below, from_r):
     return tuple(number // 1000 for number in thousands)
 
 
-def answers(rows):
-    given = b''.join(case.bytes() for row in rows for case in cases(row))
-    lines = subprocess.run([PROGRAM], input=given, stdout=subprocess.PIPE, check=True).stdout.decode().splitlines()
-    if len(lines) != 10 * len(rows):
-        sys.exit(f'staying: annuity_factors writes {len(lines)} lines for {2 * len(rows)} cases')
-    return [(lines[at:at + 5], lines[at + 5:at + 10]) for at in range(0, len(lines), 10)]
+def both_answers(rows):
+    said = answers([case for row in rows for case in cases(row)])
+    return zip(said[::2], said[1::2])
 
 
 def oracle(row):
-    return tuple(Factors(SimpleNamespace(interest=0, retire=r), {AGE: (*row, 1000)}, nearest).P(AGE)
+    return tuple(Factors(SimpleNamespace(interest=0, retire=r, pay=YEARLY), {AGE: (*row, 1000)}, nearest).P(AGE)
                  for r in (AGE + 1, AGE))
 
 
 def check():
     rows = list(rates(random.Random(8)))
     tried = Counter()
-    for row, said in zip(rows, answers(rows)):
+    for row, said in zip(rows, both_answers(rows)):
         if not staying(*row) == shown(*said) == oracle(row):
             sys.exit(f'staying: of {row} stay {staying(*row)}; the program has {shown(*said)}, the oracle {oracle(row)}')
         tried.update(kinds(*row))

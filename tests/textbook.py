@@ -1,26 +1,30 @@
 """The model plan of the textbook (Winklevoss, Pension Mathematics, second edition), held to the tables that it prints.
 
-    python3 tests/textbook.py --check     runs target/bin/value and compares, cell by cell
-    python3 tests/textbook.py --oracle    compares what tests/value_oracle.py prints
+    python3 tests/textbook.py --check     runs value and test_annuity_factors of target/bin, and compares cell by cell
+    python3 tests/textbook.py --oracle    compares what tests/value_oracle.py prints, and the factors of tests/oracle.py
     python3 tests/textbook.py --write     writes examples/textbook.case and its lines
 
 The plan pays 1.5 percent of the final five-year average for each year, interest is 8 percent, pay rises by the merit
 scale and 5 percent a year, the member enters at 30 and retires at 65. For each age, N over V is the part of the benefit
-that a method allots to that year, and L over V the part allotted before it.
+that a method allots to that year, and L over V the part allotted before it. Pensions are paid yearly but in table 5-1,
+which has them monthly.
 """
 import sys
+from collections import Counter
 from fractions import Fraction
 from typing import NamedTuple
 
+import annuity_factors
 import value_oracle
 from member_figures import dollars
-from oracle import (AB, BD, BP, CD, CP, FINAL, METHOD_NAMES, METHODS, MILLION, MOST_ASSETS, Figures, Member, Plan,
-                    nearest, table)
-from textbook_tables import (CERTAIN, DISABILITY, LIFE, MERIT, MORTALITY, TABLE_3_5, TABLE_6_2, TABLE_6_3, TERMINATION)
+from oracle import (AB, BD, BP, CD, CP, FINAL, FIRST, METHOD_NAMES, METHODS, MILLION, MONTHLY, MOST_ASSETS, S, YEARLY,
+                    Figures, Member, Plan, nearest, table)
+from textbook_tables import (CERTAIN, DISABILITY, FROM_65, LIFE, MERIT, MORTALITY, TABLE_3_5, TABLE_5_1, TABLE_6_2,
+                             TABLE_6_3, TERMINATION)
 from value_files import EXAMPLES, answer, case_file
 
-ENTRY, RETIRE = 30, 65
-MODEL = Plan(interest=800, retire=RETIRE, formula=FINAL, unit=150, average=5, method=CP, assets=0, years=15)
+ENTRY, RETIRE, LAST_RETIRE = 30, 65, 75
+MODEL = Plan(interest=800, retire=RETIRE, pay=YEARLY, formula=FINAL, unit=150, average=5, method=CP, assets=0, years=15)
 # The weight of merit 1: the largest hundred that keeps age 64's weight within 100000.
 SCALE = 4200
 
@@ -79,11 +83,13 @@ class Cell(NamedTuple):
         return self.printed if self.agrees() else f'{self.printed} not {self.worked}'
 
 
-# Two cells that don't follow from the book's rates: by these they lie just above the half, also where nothing at all is
-# rounded (69.6051 and 53.6052), and the book prints the hundredth below.
+# Cells that don't follow from the book's rates: by these they lie just above the half, also where nothing at all is
+# rounded (69.6051, 53.6052, 60.4751 and 36.8451), and the book prints the hundredth below.
 NOT_BY_ITS_RATES = {
     Cell('6-3', 'CD L/V', 38, '69.60', '69.61'),
     Cell('6-3', 'CP L/V', 40, '53.60', '53.61'),
+    Cell('5-1', 'monthly from 65', 80, '60.47', '60.48'),
+    Cell('5-1', 'monthly from 65', 92, '36.84', '36.85'),
 }
 
 
@@ -95,9 +101,9 @@ def percent(part, whole):
     return hundredths(Fraction(100 * part, whole))
 
 
-def career_figures(valued, method, rows):
-    """The figures of each age by a method, from what is printed for the career's file."""
-    said = valued(case_file(MODEL._replace(method=method), rows, one_career())).decode().split('\n')
+def career_figures(valued, plan, rows):
+    """The figures of each age by the plan's method, from what is printed for the career's file."""
+    said = valued(case_file(plan, rows, one_career())).decode().split('\n')
     fields = [line.removeprefix('member=').split(',') for line in said if line.startswith('member=')]
     return {int(age): Figures(*map(dollars, figures)) for age, *figures in fields}
 
@@ -115,7 +121,7 @@ COLUMNS = [
 
 def career_cells(valued, rows):
     """Tables 3-5, 6-2 and 6-3. The book prints no accrual at 65."""
-    figures = {method: career_figures(valued, method, rows) for method in METHODS}
+    figures = {method: career_figures(valued, MODEL._replace(method=method), rows) for method in METHODS}
     for name, printed, column, method, figure in COLUMNS:
         for age, cells in printed.items():
             if cells[column]:
@@ -124,20 +130,55 @@ def career_cells(valued, rows):
                            cells[column], percent(getattr(at_age, figure), at_age.value))
 
 
+def at_retirement(valued, plan, rows):
+    """V over B(r) of one who retires now: G(r)."""
+    said = valued(case_file(plan, rows, [Member(1, ENTRY, plan.retire, dollars('500000.00'))]))
+    benefit, value, *_ = map(dollars, said.decode().split('\n')[0].split(',')[1:])
+    return Fraction(value, benefit)
+
+
 def annuity_cells(valued, rows):
     """Table 3-6, since A and C don't show in the others: V over B(r) at retirement, unfunded over supplemental."""
     for rate, printed in LIFE.items():
         for age, cell in printed.items():
-            plan = MODEL._replace(interest=100 * rate, retire=age)
-            said = valued(case_file(plan, rows, [Member(1, ENTRY, age, dollars('500000.00'))]))
-            benefit, value, *_ = map(dollars, said.decode().split('\n')[0].split(',')[1:])
-            yield Cell('3-6', f'life, {rate} percent', age, cell, hundredths(Fraction(value, benefit)))
+            worth = at_retirement(valued, MODEL._replace(interest=100 * rate, retire=age), rows)
+            yield Cell('3-6', f'life, {rate} percent', age, cell, hundredths(worth))
     for rate, printed in CERTAIN.items():
         for years, cell in printed.items():
             plan = MODEL._replace(interest=100 * rate, years=years, assets=MOST_ASSETS)
             said = valued(case_file(plan, rows, []))
             unfunded, supplemental = (dollars(line.split('=')[1]) for line in said.decode().split('\n')[1:3])
             yield Cell('3-6', f'certain, {rate} percent', years, cell, hundredths(Fraction(unfunded, supplemental)))
+
+
+def monthly_cells(valued, factors, rows):
+    """Table 5-1 from 65 on. Nobody retires later than at 75 in a file, so that later ages have the annuities alone."""
+    plan = MODEL._replace(pay=MONTHLY)
+    worth = {age: at_retirement(valued, plan._replace(retire=age), rows) for age in FROM_65 if age <= LAST_RETIRE}
+    later = [age for age in FROM_65 if age > LAST_RETIRE]
+    asked = [annuity_factors.Case(plan.interest, age, plan.pay, FIRST, 0, rows) for age in later]
+    for age, (_, deferred, *_) in zip(later, factors(asked)):
+        worth[age] = Fraction(int(deferred.split()[-1]), S)
+    for age, cell in FROM_65.items():
+        yield Cell('5-1', 'monthly from 65', age, cell, percent(worth[age], worth[RETIRE]))
+
+
+def accrued_cells(valued, rows):
+    """Table 5-1 up to 65: the value of what is accrued, where death alone removes and where all causes do. The accrued
+    part is that of table 6-3's AB, as printed, since both rest on the same average of pay."""
+    plan = MODEL._replace(pay=MONTHLY)
+    deaths = {age: (death, 0, 0, weight) for age, (death, *_, weight) in rows.items()}
+    for column, name, removed in ((0, 'PTL', deaths), (1, 'PCL', rows)):
+        figures = career_figures(valued, plan, removed)
+        for age, cells in TABLE_5_1.items():
+            to_65 = Fraction(figures[age].value, figures[RETIRE].value)
+            yield Cell('5-1', name, age, cells[column], of_printed(TABLE_6_3[age][0], to_65, cells[column]))
+
+
+def of_printed(part, ratio, cell):
+    """A printed part times a ratio. What rounds to the part makes up to two cells: the given one, if it is one of them."""
+    ends = [hundredths((Fraction(part) + half) * ratio) for half in (Fraction(-1, 200), Fraction(1, 200))]
+    return cell if cell in ends else hundredths(Fraction(part) * ratio)
 
 
 # ---- comparing
@@ -153,14 +194,18 @@ def show(cells):
             print(str(row).ljust(10), *(texts.get(column, '').rjust(19) for column in columns))
 
 
-def check(valued):
-    cells = [*career_cells(valued, model_rows()), *annuity_cells(valued, model_rows())]
+def check(valued, factors):
+    """Holds the cells to what a case file's lines, and the lines of annuities, give."""
+    rows = model_rows()
+    cells = [*career_cells(valued, rows), *annuity_cells(valued, rows), *accrued_cells(valued, rows),
+             *monthly_cells(valued, factors, rows)]
     show(cells)
     differing = {cell for cell in cells if not cell.agrees()}
     if differing != NOT_BY_ITS_RATES:
-        sys.exit(f'textbook: other cells differ than the two known ones: {differing ^ NOT_BY_ITS_RATES}')
-    print(f'textbook: of {len(cells)} cells of tables 3-5, 6-2, 6-3 and 3-6, {len(cells) - len(differing)} agree to the '
-          f'printed hundredth, and {len(differing)} are off by 0.01 as known')
+        sys.exit(f'textbook: other cells differ than the known ones: {differing ^ NOT_BY_ITS_RATES}')
+    tables = Counter(cell.table for cell in cells)
+    print(f'textbook: of {len(cells)} cells ({", ".join(f"table {name} {tables[name]}" for name in sorted(tables))}), '
+          f'{len(cells) - len(differing)} agree to the printed hundredth, and {len(differing)} are off by 0.01 as known')
 
 
 def main():
@@ -168,9 +213,9 @@ def main():
     if sys.argv[1:] == ['--check']:
         if (EXAMPLES / 'textbook.case').read_bytes() != case:
             sys.exit('textbook: examples/textbook.case differs from what this program makes')
-        check(answer)
+        check(answer, annuity_factors.answers)
     elif sys.argv[1:] == ['--oracle']:
-        check(value_oracle.lines)
+        check(value_oracle.lines, lambda cases: [case.lines() for case in cases])
     elif sys.argv[1:] == ['--write']:
         (EXAMPLES / 'textbook.case').write_bytes(case)
         (EXAMPLES / 'textbook.lines').write_bytes(value_oracle.lines(case))

@@ -118,6 +118,37 @@ LIFE = {
     8: {55: '10.45', 65: '8.60', 70: '7.52'},
 }
 
+# Table 5-1, Plan Termination and Plan Continuation Liabilities as a Percentage of the Age-65 Value: the two, up to 65;
+# then what the benefit is worth from 65 on. By its numbers that one is paid monthly: (3.17a) less 11/24, as a note to
+# (3.17a) has it, though the note says that the book takes yearly payments throughout.
+TABLE_5_1 = {
+    30: ('0.00', '0.00'),
+    32: ('0.04', '0.01'),
+    34: ('0.11', '0.03'),
+    36: ('0.22', '0.08'),
+    38: ('0.41', '0.16'),
+    40: ('0.69', '0.32'),
+    42: ('1.13', '0.57'),
+    44: ('1.79', '1.00'),
+    46: ('2.77', '1.69'),
+    48: ('4.21', '2.79'),
+    50: ('6.30', '4.55'),
+    52: ('9.32', '7.32'),
+    54: ('13.65', '11.64'),
+    56: ('19.83', '17.71'),
+    58: ('28.61', '25.84'),
+    60: ('41.05', '37.64'),
+    62: ('58.69', '55.03'),
+    64: ('83.74', '81.48'),
+    65: ('100.00', '100.00'),
+}
+FROM_65 = {
+    65: '100.00', 66: '97.38', 68: '92.06', 70: '86.72', 72: '81.48',
+    74: '76.28', 76: '70.93', 78: '65.57', 80: '60.47', 82: '55.76',
+    84: '51.42', 86: '47.42', 88: '43.69', 90: '40.17', 92: '36.84',
+    94: '33.57', 96: '30.38', 98: '27.29', 100: '24.26',
+}
+
 # Table 6-2, Percentage of Projected Retirement Benefit Allocated to Each Age Under Various Actuarial Cost Methods:
 # AB, BP, BD, CP and CD.
 TABLE_6_2 = {

@@ -20,9 +20,10 @@ import commands
 from accuracy_search import largest_salary
 from case_files import (ACCEPTING, cut, damaged, file, filled, good_files, heading, many, member, ranges, stray_bytes,
                         two_faults)
-from member_figures import (at_largest_benefit, dollars, drawn_member, drawn_plan, drawn_rates, drawn_weights,
-                            extreme_cases, level_table, straying_cases)
-from oracle import BD, FINAL, METHOD_NAMES, MOST_ASSETS, MOST_SALARY, Member, Plan, short_table, table
+from member_figures import (SHORT_CASE, at_ends, at_largest_benefit, dollars, drawn_member, drawn_plan, drawn_rates,
+                            drawn_weights, extreme_cases, level_table, straying_cases)
+from oracle import (BD, FINAL, METHOD_NAMES, MOST_ASSETS, MOST_SALARY, NO_PAYS, PAYS, YEARLY, Member, Plan, short_table,
+                    table)
 from value_oracle import amount, exact_supplemental, lines, supplemental_limit, valued
 
 ROOT = Path(__file__).parent.parent
@@ -55,11 +56,13 @@ def worked():
     short, level = short_table(), level_table()
     yield 'the short table', file(heading(), short, [member(7)]), (
         b'member=7,200.00,181.82,86.58,95.24\ntotal=1,181.82,86.58,95.24\nunfunded=75.24\nsupplemental=39.41\n')
+    yield 'the short table, paid monthly', file(heading(pay=12), short, [member(7)]), (
+        b'member=7,200.00,98.48,46.90,51.58\ntotal=1,98.48,46.90,51.58\nunfunded=31.58\nsupplemental=16.54\n')
     yield 'unfunded -100.00, years 2', file(heading(assets='100.00'), short, []), (
         b'total=0,0.00,0.00,0.00\nunfunded=-100.00\nsupplemental=-52.38\n')
     yield 'the empty file', b'', b'refused=2,1\n'
     yield 'end=0', file(heading(), short, []), b'total=0,0.00,0.00,0.00\n'
-    yield 'salary 4125.50.75', file(heading(), short, [member(7, salary='4125.50.75')]), b'refused=20,115\n'
+    yield 'salary 4125.50.75', file(heading(), short, [member(7, salary='4125.50.75')]), b'refused=20,116\n'
     for assets, payment in (('0.01', b'0.00'), ('0.03', b'-0.02'), ('0.05', b'-0.02')):
         yield f'interest 0, {assets} too much in 2 years', file(heading(interest=0, assets=assets), short, []), (
             b'total=0,0.00,0.00,0.00\nunfunded=-%s\nsupplemental=%s\n' % (assets.encode(), payment))
@@ -69,12 +72,13 @@ def worked():
 
 
 def worked_methods(short, level):
-    for method, said in dict(AB=b'90.91,90.91', BD=b'90.91,90.91', BP=b'95.24,86.58', CP=b'90.91,90.91').items():
-        yield f'{method} at 64', file(heading(method=method), short, [member(7)]), b'member=7,200.00,181.82,' + said
-    for method in METHOD_NAMES.values():
-        cost = b'82.64' if method == 'CP' else b'*'
-        case = file(heading(method=method), short, [member(7, 63, 63)])
-        yield f'{method} at 63', case, b'member=7,200.00,165.29,%s,0.00\n' % cost
+    for pay, (at_64, at_63, figures, cost_of_cp) in SHORT_CASE.items():
+        for method, (cost, liability) in figures.items():
+            case = file(heading(pay=pay, method=method), short, [member(7)])
+            yield f'{method} at 64, pay {pay}', case, f'member=7,200.00,{at_64},{cost},{liability}\n'.encode()
+            case = file(heading(pay=pay, method=method), short, [member(7, 63, 63)])
+            cost = cost_of_cp if method == 'CP' else '*'
+            yield f'{method} at 63, pay {pay}', case, f'member=7,200.00,{at_63},{cost},0.00\n'.encode()
     for method in METHOD_NAMES.values():
         case = file(heading(interest=0, method=method), level, [member(1, 35, 45)])
         yield f'{method}, interest 0', case, b'member=1,*,168000.00,5600.00,56000.00\n'
@@ -91,17 +95,19 @@ def worked_bounds(short, level):
     stands = b'total=0,0.00,0.00,0.00\n'
     for retire, said in ((49, b'refused=11,2\n'), (50, stands), (75, stands), (76, b'refused=11,2\n')):
         yield f'retire {retire}', file(heading(retire=retire), short, []), said
+    for pay in (*PAYS, *NO_PAYS):
+        yield f'pay {pay}', file(heading(pay=pay), short, []), stands if pay in PAYS else b'refused=11,3\n'
     for retire, said in ((65, b'member=7,50000.00,13363.59,'), (64, b'member=7,49000.00,75727.27,')):
         crowded = {**short, 64: (400000, 300000, 300001, 1100)}
         case = file(heading(retire=retire, unit=100000), crowded, [member(7, 15, 64)])
         yield f'rates that sum to 1000001 at 64, retire {retire}', case, said
-    yield 'weight 999', file(heading(), {**short, 15: (0, 0, 0, 999)}, []), b'refused=15,9\n'
+    yield 'weight 999', file(heading(), {**short, 15: (0, 0, 0, 999)}, []), b'refused=15,10\n'
     final = heading(formula='final', unit=500, average=1)
-    for service, said in ((20, b'member=7,1000000.00,'), (21, b'refused=25,115\n')):
+    for service, said in ((20, b'member=7,1000000.00,'), (21, b'refused=25,116\n')):
         members = [member(7, 65 - service, 60, '1000000.00')]
         yield f'salary 1000000.00, {service} years', file(final, level, members), said
     final = heading(retire=60, formula='final', unit=500, average=1)
-    for salary, said in (('666666.67', b'member=7,1000000.00,'), ('666666.68', b'refused=25,115\n')):
+    for salary, said in (('666666.67', b'member=7,1000000.00,'), ('666666.68', b'refused=25,116\n')):
         yield f'salary {salary}, 30 years', file(final, short, [member(7, 30, 40, salary)]), said
 
 
@@ -131,8 +137,9 @@ def bounds():
 
 
 def largest_figures():
-    """One member each: the largest benefits, the ends of a member's ages, and every rounding pushing one way."""
-    cases = [*at_largest_benefit(), *extreme_cases(), *straying_cases()]
+    """One member each: the largest benefits, the ends of a member's ages and of a plan's terms, and every rounding
+    pushing one way."""
+    cases = [*at_largest_benefit(), *extreme_cases(), *at_ends(), *straying_cases()]
     return [case_file(plan, rows, [only]) for plan, rows, only in cases]
 
 
@@ -140,7 +147,7 @@ def longest():
     """Each line as long as it can be: pay rises a hundredfold before retirement, nobody leaves before 120."""
     rows = table(lambda k: (0, 0, 0), lambda k: 1000 if k < 49 else 100000)
     members = [Member(id, 46, 48, dollars('50000.00')) for id in range(999999000, 1000000000)]
-    case = case_file(Plan(0, 50, FINAL, 500, 1, BD, MOST_ASSETS, 1), rows, members)
+    case = case_file(Plan(0, 50, YEARLY, FINAL, 500, 1, BD, MOST_ASSETS, 1), rows, members)
     assert len(lines(case)) == LONGEST and lines(case, LONGEST - 1) == b'refused=30,0\n'
     return case
 
@@ -202,7 +209,9 @@ def drawn_file(rng, count):
     liability = valued(plan, rows, members).total('liability')
     assets = rng.choice([0, plan.assets, rng.randint(0, 2 * liability), max(0, liability + rng.randint(-9, 9))])
     plan = plan._replace(assets=assets)
-    fault = rng.choices([None, 'member', 'byte'], [85, 5, 10])[0]
+    fault = rng.choices([None, 'pay', 'member', 'byte'], [83, 2, 5, 10])[0]
+    if fault == 'pay':
+        plan = plan._replace(pay=rng.choice(NO_PAYS))
     if fault == 'member':
         members.append(faulty_member(rng, plan, rows))
     case = case_file(plan, rows, members)

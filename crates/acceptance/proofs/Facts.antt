@@ -1,12 +1,12 @@
 -- What is known of a plan and of a member that no rule refuses.
 use mathlib.Core.Path.{_≡_, subst, _∙_}
-use mathlib.Core.Logic.{⊎-elim}
-use mathlib.Core.Bool.{Bool, true, false, cond, _&&_}
+use mathlib.Core.Logic.{inl, inr, ⊎-elim}
+use mathlib.Core.Bool.{Bool, true, false, cond, _&&_, _||_}
 use mathlib.Core.List.{List, [], _∷_}
 use Prim.Native.Nat.{ℕ, zero, suc, _+_, _≤_, _<_}
 use native.Mathlib.Nat.{eq-or-lt-of-le}
 use native.Mathlib.Omega.{arith}
-use borrow.Author.Tests.{leb-true, ltb-true, eq-eqb, ne-eqb}
+use borrow.Author.Tests.{leb-true, ltb-true, eqb-true, eq-eqb, ne-eqb}
 use lib.Dec.{leb, ltb, eqb}
 use Rattle.rates.specs.Rates.{death, withdrawal, disability}
 use Rattle.rates.specs.Table.{row, weight, Sound}
@@ -20,7 +20,7 @@ use Rattle.plan.specs.Benefit.{B}
 use Rattle.plan.specs.Ranges.{HeadRanges, PlanRanges, InRange, MemberRanges}
 use Rattle.plan.proofs.RiseLaws.{never-falls, climbing}
 use Rattle.acceptance.specs.Rising.{Accepted-Never-Falls}
-use Rattle.rules.proofs.RuleLaws.{all-kept, refusal-of-both, both-refusals, kept, both-true, between-true}
+use Rattle.rules.proofs.RuleLaws.{all-kept, refusal-of-both, both-refusals, kept, both-true, either-true, between-true}
 use Rattle.rules.proofs.TableLaws.{weight-passed}
 
 -- ---- the heading
@@ -32,18 +32,19 @@ pub head-facts : (p : Plan) → firstOf (headRules p) ≡ 0 → HeadRanges p
 unfolding headRules
 head-facts p e =
     let k = all-kept (headRules p) e in
-    let unit : p .unit ≤ cond (eqb (p .formula) 1) 100000 500 = leb-true _ _ (kept (leb (p .unit) (cond (eqb (p .formula) 1) 100000 500)) 10 (k .1 .1 .1 .0)) in
-    let average = kept (cond (eqb (p .formula) 3) (between 1 10 (p .average)) (eqb (p .average) 0)) 11 (k .1 .1 .1 .1 .0) in
+    let unit : p .unit ≤ cond (eqb (p .formula) 1) 100000 500 = leb-true _ _ (kept (leb (p .unit) (cond (eqb (p .formula) 1) 100000 500)) 10 (k .1 .1 .1 .1 .0)) in
+    let average = kept (cond (eqb (p .formula) 3) (between 1 10 (p .average)) (eqb (p .average) 0)) 11 (k .1 .1 .1 .1 .1 .0) in
     record {
       interest = leb-true _ _ (kept (leb (p .interest) 2000) 10 (k .0));
       retire = between-true 50 75 (p .retire) (kept (between 50 75 (p .retire)) 10 (k .1 .0));
-      formula = between-true 1 3 (p .formula) (kept (between 1 3 (p .formula)) 9 (k .1 .1 .0));
+      pay = ⊎-elim (λ e. inl (eqb-true (p .pay) 1 e)) (λ e. inr (eqb-true (p .pay) 12 e)) (either-true (eqb (p .pay) 1) (eqb (p .pay) 12) (kept (eqb (p .pay) 1 || eqb (p .pay) 12) 10 (k .1 .1 .0)));
+      formula = between-true 1 3 (p .formula) (kept (between 1 3 (p .formula)) 9 (k .1 .1 .1 .0));
       flat-unit = unit-most (eqb (p .formula) 1) (p .unit) unit;
       pay-unit = λ other. subst (λ (t : Bool). p .unit ≤ cond t 100000 500) (ne-eqb (p .formula) 1 other) unit;
       average = λ final. between-true 1 10 (p .average) (subst (λ (t : Bool). cond t (between 1 10 (p .average)) (eqb (p .average) 0) ≡ true) (eq-eqb (p .formula) 3 final) average);
-      method = between-true 1 5 (p .method) (kept (between 1 5 (p .method)) 9 (k .1 .1 .1 .1 .1 .0));
-      assets = leb-true _ _ (kept (leb (p .assets) 99999999999999) 10 (k .1 .1 .1 .1 .1 .1 .0));
-      years = between-true 1 40 (p .years) (kept (between 1 40 (p .years)) 10 (k .1 .1 .1 .1 .1 .1 .1 .0));
+      method = between-true 1 5 (p .method) (kept (between 1 5 (p .method)) 9 (k .1 .1 .1 .1 .1 .1 .0));
+      assets = leb-true _ _ (kept (leb (p .assets) 99999999999999) 10 (k .1 .1 .1 .1 .1 .1 .1 .0));
+      years = between-true 1 40 (p .years) (kept (between 1 40 (p .years)) 10 (k .1 .1 .1 .1 .1 .1 .1 .1 .0));
     }
 
 -- ---- the rows

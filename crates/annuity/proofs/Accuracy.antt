@@ -4,34 +4,25 @@ use native.Mathlib.Nat.{le-refl, mul-le-mul-right}
 use native.Mathlib.Omega.{arith}
 use Rattle.fractions.specs.Ratio.{_over_, whole}
 use Rattle.annuity.specs.Basis.{Basis, Fair, certain}
-use Rattle.annuity.specs.Factors.{S, A, A*, pension, pension*, G, G*, T, T*, Z, Z*, C, C*}
+use Rattle.annuity.specs.Factors.{S, pension, pension*, G, G*, T, T*, Z, Z*, C, C*}
 use Rattle.annuity.specs.Accuracy.{A-Accuracy, G-Accuracy, T-Accuracy, Z-Accuracy, C-Accuracy}
 use Rattle.annuity.proofs.Bases.{certain-fair}
-use Rattle.annuity.proofs.Distance.{Halves, Part, halves-more, part-halves, halves-apart, part-apart}
+use Rattle.annuity.proofs.Distance.{Halves, Part, halves-more, halves-apart, part-apart}
 use Rattle.annuity.proofs.Annuities.{annuity-part, deferred-halves}
-use Rattle.annuity.proofs.Sizes.{A*-proper, A*-most, G*-proper, T*-proper, Z*-proper}
+use Rattle.annuity.proofs.Life.{A*-proper, A-halves}
+use Rattle.annuity.proofs.PensionLaws.{pension-halves}
+use Rattle.annuity.proofs.Sizes.{G*-proper, T*-proper, Z*-proper}
 
 whole-part : (s n : ℕ) → Part s n (whole n)
 unfolding whole _over_
 whole-part s n = omega arith
 
 module _ (b : Basis) (fair : Fair b) where
-  pub A-part : (k : ℕ) → Part S (A b k) (A* b k)
-  unfolding A A*
-  A-part k = annuity-part b fair (λ j. S) S S (whole S) k (120 - k) (whole-part S S) (λ j from to. le-refl S)
-
-  pub A-halves : (k : ℕ) → k ≤ 120 → Halves (121 - k) (A b k) (A* b k)
-  A-halves k h = part-halves S (121 - k) (omega arith) (A*-most b fair k h) (A-part k)
-
-  pub pension-halves : b .r ≤ 120 → Halves (121 - b .r) (pension b) (pension* b)
-  unfolding pension pension*
-  pension-halves h = A-halves (b .r) h
-
   pub G-halves : (k : ℕ) → b .r ≤ 120 → k ≤ b .r → Halves (121 - k) (G b k) (G* b k)
   unfolding G G*
   G-halves k hr h =
       halves-more (121 - k) (omega arith)
-      (deferred-halves b fair (121 - b .r) (pension b) (pension* b) k (b .r - k) (pension-halves hr))
+      (deferred-halves b fair (121 - b .r) (pension b) (pension* b) k (b .r - k) (pension-halves b fair hr))
 
   pub T-part : (k e : ℕ) → Part S (T b k e) (T* b k e)
   unfolding T T*
@@ -44,7 +35,7 @@ module _ (b : Basis) (fair : Fair b) where
       (λ j from to. mul-le-mul-right S (weights j from (omega arith)))
 
 pub A-accuracy : A-Accuracy
-A-accuracy b fair k h = halves-apart (A*-proper b k) (A-halves b fair k h)
+A-accuracy b fair k h = halves-apart (A*-proper b k) (halves-more (121 - k) (omega arith) (A-halves b fair k))
 
 pub G-accuracy : G-Accuracy
 G-accuracy b fair hr k h = halves-apart (G*-proper b k) (G-halves b fair k hr h)

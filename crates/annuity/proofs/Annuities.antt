@@ -11,7 +11,7 @@ use Rattle.annuity.specs.Recursion.{carried}
 use Rattle.annuity.specs.Basis.{Basis, Fair}
 use Rattle.annuity.specs.Factors.{step, step*}
 use Rattle.annuity.proofs.Carried.{carried-before, carried-both, carried-each, carried-split}
-use Rattle.annuity.proofs.Distance.{Halves, Part}
+use Rattle.annuity.proofs.Distance.{Halves, Part, halves-plus}
 use Rattle.annuity.proofs.YearStep.{step-mono, step-shrinks, exact-step-shrinks, step-halves, step-part}
 
 module _ (b : Basis) where
@@ -93,6 +93,14 @@ module _ (b : Basis) where
     annuity-part w s start start* k n first amounts =
         carried-both (λ n f g. Part s f g) (paying w) (paying* w) start start* first k n
         (λ j n from to f g near. step-part s f g (b .P j) _ (w j) (omega arith) (amounts j from to) near)
+
+    pub annuity-halves : (w : ℕ → ℕ) (m start : ℕ) (start* : Ratio) (k n : ℕ) → Halves m start start*
+        → Halves (m + n) (carried (paying w) start k n) (carried (paying* w) start* k n)
+    unfolding step step*
+    annuity-halves w m start start* k n first =
+        carried-both (λ n f g. Halves (m + n) f g) (paying w) (paying* w) start start* (rw (add-zero m) first) k n
+        (λ j n from to f g near.
+        rw (add-suc m n) (halves-plus (w j) (step-halves (m + n) f g (b .P j) _ (omega arith) (omega (arith, fair .stays j)) near)))
 
     pub deferred-halves : (m start : ℕ) (start* : Ratio) (k n : ℕ) → Halves m start start*
         → Halves (m + n) (carried (step b) start k n) (carried (step* b) start* k n)

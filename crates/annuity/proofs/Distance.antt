@@ -1,8 +1,9 @@
 -- How far a whole number lies from a fraction, as two inequalities over whole numbers: the form in which errors are carried back year by year.
-use Prim.Native.Nat.{ℕ, _+_, _*_, _≤_, _<_}
-use native.Mathlib.Nat.{mul-le-mul-right, mul-le-mul-left, le-of-mul-le-mul-left}
+use mathlib.Core.Path.{_≡_, subst}
+use Prim.Native.Nat.{ℕ, _+_, _-_, _*_, _≤_, _<_}
+use native.Mathlib.Nat.{mul-le-mul-right, mul-le-mul-left}
 use native.Mathlib.Omega.{arith}
-use Rattle.fractions.specs.Ratio.{Ratio, _over_, whole, _⊕_, _⊗_, Proper, _≼_}
+use Rattle.fractions.specs.Ratio.{Ratio, _over_, whole, _⊕_, _⊝_, _⊗_, Proper, _≼_}
 use Rattle.fractions.specs.Fraction.{fraction, Apart}
 use Rattle.fractions.proofs.RatioLaws.{whole-proper, over-proper, ⊕-proper, ⊗-proper}
 use Rattle.fractions.proofs.ApartLaws.{apart-of}
@@ -20,14 +21,25 @@ pub record Part (s f : ℕ) (a : Ratio) : Type 0 where
 pub halves-more : (m : ℕ) {n f : ℕ} {a : Ratio} → n ≤ m → Halves n f a → Halves m f a
 halves-more m {n} {f} {a} h w = omega (arith, mul-le-mul-right (a .lower) h)
 
--- a fraction of n times s at most: one part in 2 s of it is n halves at most
-pub part-halves : (s n : ℕ) {f : ℕ} {a : Ratio} → 0 < s → a ≼ whole (n * s) → Part s f a → Halves n f a
-unfolding whole _over_
-part-halves s n {f} {a} hs le w =
+-- a whole number more on both sides
+pub halves-plus : (m : ℕ) {n f : ℕ} {a : Ratio} → Halves n f a → Halves n (m + f) (whole m ⊕ a)
+unfolding whole _over_ _⊕_
+halves-plus m w = omega arith
+
+-- a difference strays by what both stray
+left-halves : {n m g c : ℕ} {a d : Ratio} → Halves n (c + g) a → Halves m c d → d ≼ a → Halves (n + m) g (a ⊝ d)
+unfolding _⊝_
+left-halves {n} {m} {g} {c} {a} {d} w z le =
+    let rest : a .upper * d .lower - d .upper * a .lower + d .upper * a .lower ≡ a .upper * d .lower = omega arith in
     record {
-      below = le-of-mul-le-mul-left {m = 2 * (f * a .lower)} {n = 2 * a .upper + n * a .lower} {k = s} (omega arith) hs;
-      above = le-of-mul-le-mul-left {m = 2 * a .upper} {n = 2 * (f * a .lower) + n * a .lower} {k = s} (omega arith) hs;
+      below = omega (arith, mul-le-mul-left (d .lower) (w .below), mul-le-mul-left (a .lower) (z .above));
+      above = omega (arith, mul-le-mul-left (d .lower) (w .above), mul-le-mul-left (a .lower) (z .below));
     }
+
+pub halves-less : {n m f c : ℕ} {a d : Ratio} → Halves n f a → Halves m c d → c ≤ f → d ≼ a → Halves (n + m) (f - c) (a ⊝ d)
+halves-less {n} {f = f} {c = c} {a = a} w z h le =
+    let whole-is : f ≡ c + (f - c) = omega arith in
+    left-halves (subst (λ (f : ℕ). Halves n f a) whole-is w) z le
 
 -- ---- in the words of the statements
 part-proper : (s : ℕ) {a : Ratio} → 0 < s → Proper a → Proper (a ⊗ 1 over (2 * s))

@@ -29,13 +29,13 @@ module _ (b : Basis) where
   unfolding A*
   A*-below k h = carried-before _ _ k 120 h
 
-  -- ---- G
-  pub G-at-r : G b r ≡ A b r
-  unfolding G pension
+  -- ---- G; what it begins with is in PensionLaws.antt
+  pub G-at-r : G b r ≡ pension b
+  unfolding G
   G-at-r = carried-at _ _ r
 
-  pub G*-at-r : G* b r ≡ A* b r
-  unfolding G* pension*
+  pub G*-at-r : G* b r ≡ pension* b
+  unfolding G*
   G*-at-r = carried-at _ _ r
 
   pub G-below : (k : ℕ) → k < r → G b k ≡ step b k (G b (k + 1))

@@ -12,7 +12,7 @@ use Rattle.annuity.specs.declared.Amount.the-variants.{Nothing, One, Wei
 use Rattle.rounding.specs.Nearest.{nearest}
 use Rattle.rates.specs.Rates.{stays}
 use Rattle.rates.specs.Table.{staying}
-use Rattle.annuity.specs.Basis.{Basis, Fair, basis}
+use Rattle.annuity.specs.Basis.{Basis, Fair, basis, payable}
 use Rattle.annuity.specs.Factors.{S, step, pension, G}
 use Rattle.annuity.specs.Filled.{Filled, paidOf, factor}
 use Rattle.annuity.proofs.Carried.{carried-at, carried-before, carried-cong}
@@ -84,8 +84,9 @@ factor-most b fair amount top start k high low st weights =
     omega (arith, m, mul-le-mul-right {m = 1 + (top - k)} {n = 107} (100000 * S) (omega arith))
 
 -- ---- A, T and Z are cases of it by computing, and G by a law
-pub deferred-filled : (b : Basis) {a : List ℕ} → Filled (factor b Nothing (b .r) (pension b)) (b .r) 15 a → Filled (G b) (b .r) 15 a
-unfolding factor paidOf G
-deferred-filled b held =
-    let same : (k : ℕ) → factor b Nothing (b .r) (pension b) k ≡ G b k = λ k. carried-cong _ _ (pension b) (λ j f. zero-add (step b j f)) k (b .r - k) in
+pub deferred-filled : (pay : ℕ) (b : Basis) {a : List ℕ} → Filled (factor b Nothing (b .r) (pension (payable pay b))) (b .r) 15 a → Filled (G (payable pay b)) (b .r) 15 a
+unfolding factor paidOf G step
+deferred-filled pay b held =
+    let start : ℕ = pension (payable pay b) in
+    let same : (k : ℕ) → factor b Nothing (b .r) start k ≡ G (payable pay b) k = λ k. carried-cong _ _ start (λ j f. zero-add (step b j f)) k (b .r - k) in
     record { size = held .size; upto = λ k low lt. held .upto k low lt ∙ same k; above = held .above }

@@ -5,6 +5,8 @@ pub mod Equations
 pub mod Distance
 pub mod YearStep
 pub mod Annuities
+pub mod Life
+pub mod PensionLaws
 pub mod Sizes
 pub mod Chains
 pub mod Accuracy

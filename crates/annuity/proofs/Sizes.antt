@@ -1,4 +1,5 @@
--- How large the factors are, rounded and exact: at most so many payments, and no less for a later end. Every exact lower is above 0.
+-- How large G, T, Z, v and C are, rounded and exact: at most so many payments, and no less for a later end. Every exact lower is above 0.
+-- A has a file of its own, and so has the annuity of a pension.
 use Prim.Native.Nat.{ℕ, _-_, _*_, _≤_, _<_}
 use native.Mathlib.Nat.{le-refl}
 use native.Mathlib.Omega.{arith}
@@ -6,23 +7,16 @@ use Rattle.fractions.specs.Ratio.{whole, Proper, Positive, _≼_}
 use Rattle.fractions.proofs.RatioLaws.{whole-proper}
 use Rattle.fractions.proofs.OrderLaws.{_∙≼_, whole-≼}
 use Rattle.annuity.specs.Basis.{Basis, Fair, certain}
-use Rattle.annuity.specs.Factors.{S, A, A*, pension, pension*, G, G*, T, T*, Z, Z*, v, C, C*}
+use Rattle.annuity.specs.Factors.{S, pension, pension*, G, G*, T, T*, Z, Z*, v, C, C*}
 use Rattle.annuity.proofs.Bases.{certain-fair}
+use Rattle.annuity.proofs.PensionLaws.{pension*-proper, pension-most, pension*-most}
 use Rattle.annuity.proofs.Annuities.{deferred-proper, annuity-proper, annuity-least, annuity-positive, annuity-most, annuity*-most, deferred-most, deferred*-most, annuity-longer, annuity*-longer}
 
 module _ (b : Basis) where
   -- ---- every exact lower is above 0
-  pub A*-proper : (k : ℕ) → Proper (A* b k)
-  unfolding A*
-  A*-proper k = annuity-proper b (λ j. S) (whole-proper S) k (120 - k)
-
-  pub pension*-proper : Proper (pension* b)
-  unfolding pension*
-  pension*-proper = A*-proper (b .r)
-
   pub G*-proper : (k : ℕ) → Proper (G* b k)
   unfolding G*
-  G*-proper k = deferred-proper b pension*-proper k (b .r - k)
+  G*-proper k = deferred-proper b (pension*-proper b) k (b .r - k)
 
   pub T*-proper : (k e : ℕ) → Proper (T* b k e)
   unfolding T*
@@ -72,31 +66,13 @@ module _ (b : Basis) where
     Z-longer = annuity-longer b fair (λ j. b .W j * S)
 
     -- ---- at most so many payments
-    pub A-most : (k : ℕ) → k ≤ 120 → A b k ≤ (121 - k) * S
-    unfolding A
-    A-most k h = omega (arith, annuity-most b fair (λ j. S) S S 1 k (120 - k) (omega arith) (λ j from to. le-refl S))
-
-    pub A*-most : (k : ℕ) → k ≤ 120 → A* b k ≼ whole ((121 - k) * S)
-    unfolding A*
-    A*-most k h =
-        annuity*-most b fair (λ j. S) S (whole S) 1 k (120 - k) (whole-≼ (omega arith)) (λ j from to. le-refl S)
-        ∙≼ whole-≼ (omega arith)
-
-    pub pension-most : b .r ≤ 120 → pension b ≤ (121 - b .r) * S
-    unfolding pension
-    pension-most h = A-most (b .r) h
-
-    pub pension*-most : b .r ≤ 120 → pension* b ≼ whole ((121 - b .r) * S)
-    unfolding pension*
-    pension*-most h = A*-most (b .r) h
-
     pub G-most : (k : ℕ) → b .r ≤ 120 → G b k ≤ (121 - b .r) * S
     unfolding G
-    G-most k h = omega (arith, deferred-most b fair (pension b) k (b .r - k), pension-most h)
+    G-most k h = omega (arith, deferred-most b fair (pension b) k (b .r - k), pension-most b fair h)
 
     pub G*-most : (k : ℕ) → b .r ≤ 120 → G* b k ≼ whole ((121 - b .r) * S)
     unfolding G*
-    G*-most k h = deferred*-most b fair (pension* b) k (b .r - k) pension*-proper ∙≼ pension*-most h
+    G*-most k h = deferred*-most b fair (pension* b) k (b .r - k) (pension*-proper b) ∙≼ pension*-most b fair h
 
     pub T-most : (k e : ℕ) → T b k e ≤ (e - k) * S
     unfolding T

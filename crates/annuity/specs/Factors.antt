@@ -1,8 +1,13 @@
 -- The factors of RULES section 8, in billionths, each rounded and, by rule 10.1, exact, side by side.
 -- The rules' own equations, A(120) = S and so on, are the lemmas of proofs/Equations.antt.
+use mathlib.Core.Path.{_≡_, refl}
+use mathlib.Core.Bool.{true, cond}
+use mathlib.Core.List.{[], _∷_}
 use Prim.Native.Nat.{ℕ, _+_, _-_, _*_}
+use lib.Dec.{eqb}
 use Rattle.rounding.specs.Nearest.{nearest}
-use Rattle.fractions.specs.Ratio.{Ratio, _over_, whole, _⊕_, _⊗_}
+use Rattle.fractions.specs.Ratio.{Ratio, _over_, whole, _⊕_, _⊝_, _⊗_}
+use Rattle.rates.specs.ByHand.{_is_, all-are}
 use Rattle.annuity.specs.Recursion.{carried}
 use Rattle.annuity.specs.Basis.{Basis, certain}
 
@@ -10,8 +15,15 @@ use Rattle.annuity.specs.Basis.{Basis, certain}
 abbrev pub S : ℕ
 S = 1000000000
 
+-- rule 8.5, 11/24, which payment by the month takes off: as it is taken, in whole billionths, and exact
+abbrev pub monthly : ℕ
+monthly = 458333333
+
+abbrev pub monthly* : Ratio
+monthly* = 11 over 24 ⊗ whole S
+
 module _ (b : Basis) where
-  open Basis b using (i, r, P, W)
+  open Basis b using (i, r, pay, P, W)
 
   -- rule 8.3, the year step from age k+1 to k: staying P(k), and a year's discount, in one rounding
   unfoldable pub step : ℕ → ℕ → ℕ
@@ -27,14 +39,14 @@ module _ (b : Basis) where
   unfoldable pub A* : ℕ → Ratio
   A* k = carried (λ j f. whole S ⊕ step* j f) (whole S) k (120 - k)
 
-  -- rule 8.5, the annuity that a pension is worth at retirement, where G begins: A(r)
+  -- rule 8.5, the annuity that a pension is worth at retirement, where G begins: A(r), and 11/24 less where it is paid by the month
   unfoldable pub pension : ℕ
-  pension = A r
+  pension = cond (eqb pay 12) (A r - monthly) (A r)
 
   unfoldable pub pension* : Ratio
-  pension* = A* r
+  pension* = cond (eqb pay 12) (A* r ⊝ monthly*) (A* r)
 
-  -- rule 8.5, the deferred annuity G: A(r) at r, and below r the step alone
+  -- rule 8.5, the deferred annuity G: a pension's annuity at r, and below r the step alone
   unfoldable pub G : ℕ → ℕ
   G k = carried step pension k (r - k)
 
@@ -65,3 +77,12 @@ C i m = T (certain i) 0 m
 
 unfoldable pub C* : ℕ → ℕ → Ratio
 C* i m = T* (certain i) 0 m
+
+-- ---- rule 8.5, worked where nobody dies before 120, at no interest: at 119 there are two payments to come. It stands here so that a wrong
+-- definition is refused by it
+abbrev two-payments : ℕ → Basis
+two-payments pay = record { i = 0; r = 119; pay = pay; P = λ k. 1000000; W = λ k. 1000 }
+
+pub pensions-are : all-are ((pension (two-payments 1) is 2000000000) ∷ (pension (two-payments 12) is 1541666667) ∷ []) ≡ true
+unfolding carried nearest step A pension
+pensions-are = refl

@@ -9,7 +9,7 @@ use Rattle.rates.specs.ByHand.{Figure, _is_, all-are}
 use Rattle.annuity.specs.Recursion.{carried}
 use Rattle.rates.specs.Rates.{able, serves, leaves, stays, crowded, rates}
 use Rattle.rates.specs.Table.{staying}
-use Rattle.annuity.specs.Basis.{Basis, basis}
+use Rattle.annuity.specs.Basis.{Basis, basis, payable}
 use Rattle.annuity.specs.Factors.{step, A, pension, G, T}
 
 -- the short table of rule 14.1 but for the row of age 64: nobody dies before that, and all do at 65; the weight is 1000, and 1100 from
@@ -29,7 +29,8 @@ short-basis = basis short 65 1000
 abbrev crowded-basis : (r : ℕ) → Basis
 crowded-basis r = basis (shortWith crowded) r 1000
 
--- after the rates: rule 14.19, the annuity at 64 before retirement and at it; rule 14.3, G at 64 and 63, and T(63,65)
+-- after the rates: rule 14.19, the annuity at 64 before retirement and at it; rule 14.3, G at 64 and 63, and T(63,65); rule 14.22, G of
+-- pensions paid by the month
 unfoldable pub factors : List Figure
 factors =
     rates
@@ -38,6 +39,9 @@ factors =
     ∷ (G short-basis 64 is 909090909)
     ∷ (G short-basis 63 is 826446281)
     ∷ (T short-basis 63 65 is 1909090909)
+    ∷ (G (payable 12 short-basis) 65 is 541666667)
+    ∷ (G (payable 12 short-basis) 64 is 492424243)
+    ∷ (G (payable 12 short-basis) 63 is 447658403)
     ∷ []
 
 pub factors-are : all-are factors ≡ true

@@ -12,7 +12,7 @@ ghost use lib.ListN.{getD};
 ghost use Rattle.rounding.specs.Nearest.{nearest};
 ghost use Rattle.rates.specs.Rates.{stays};
 ghost use Rattle.rates.specs.Table.{Sound, Table, firstAge, ages};
-ghost use Rattle.annuity.specs.Basis.{basis};
+ghost use Rattle.annuity.specs.Basis.{basis, payable};
 ghost use Rattle.annuity.specs.Factors.{A as Factors·A, pension as Factors·pension, G, T, Z, C};
 ghost use Rattle.annuity.specs.Factors.{S as Factors·S};
 ghost use Rattle.annuity.specs.Filled.{Filled, paidOf, factor};
@@ -90,21 +90,28 @@ fn life_of(rows: &Rows, r: usize, i: u64) -> Factors
     fill(rows, r, i, Amount::One, 120, S)
 }
 
-// Rule 8.5, the annuity that a pension is worth at retirement: A(r).
-fn pension(rows: &Rows, r: usize, i: u64) -> u64
+// Rule 8.5: 11/24, which payment by the month takes off, in billionths.
+const MONTHLY: u64 = 458_333_333;
+
+// Rule 8.5, the annuity that a pension is worth at retirement: A(r), and less where it is paid by the month.
+fn pension(rows: &Rows, r: usize, pay: u64, i: u64) -> u64
     requires { ⌜ Table (now rows) × (i ≤ 2000) × (15 ≤ r) × (r ≤ 120) ⌝ }
-    ensures { λ p. ⌜ p ≡ Factors·pension (basis (now (rows .entry)) r i) ⌝ }
+    ensures { λ p. ⌜ p ≡ Factors·pension (payable pay (basis (now (rows .entry)) r i)) ⌝ }
 {
     let life = life_of(rows, r, i);
-    life[r - FIRST_AGE]
+    let yearly = life[r - FIRST_AGE];
+    if pay == 12 {
+        return yearly - MONTHLY;
+    }
+    yearly
 }
 
-// Rule 8.5: G(k) for each age up to r.
-pub fn deferred_annuity(rows: Rows, r: usize, i: u64) -> Factors
+// Rule 8.5: G(k) for each age up to r, of a pension that is paid so many times a year.
+pub fn deferred_annuity(rows: Rows, r: usize, pay: u64, i: u64) -> Factors
     requires { ⌜ Table rows × (i ≤ 2000) × (15 ≤ r) × (r ≤ 120) ⌝ }
-    ensures { λ a. ⌜ Filled (G (basis rows r i)) r 15 a ⌝ }
+    ensures { λ a. ⌜ Filled (G (payable pay (basis rows r i))) r 15 a ⌝ }
 {
-    let start = pension(&rows, r, i);
+    let start = pension(&rows, r, pay, i);
     fill(&rows, r, i, Amount::Nothing, r, start)
 }
 

@@ -7,7 +7,8 @@ use Rattle.rounding.specs.Nearest.{nearest}
 use Rattle.rounding.proofs.NearestLaws.{nearest-mono, nearest-exact}
 use Rattle.rates.specs.Table.{Table}
 use Rattle.annuity.specs.Factors.{S, G, Z}
-use Rattle.annuity.proofs.Bases.{basis-fair}
+use Rattle.annuity.specs.Basis.{Fair}
+use Rattle.annuity.proofs.Bases.{basis-fair, payable-fair}
 use Rattle.annuity.proofs.Sizes.{G-most, Z-least}
 use Rattle.plan.specs.declared.Plan.{Plan}
 use Rattle.plan.specs.declared.Member.{Member}
@@ -21,6 +22,9 @@ pub worth-most : (benefit deferred : ℕ) → deferred ≤ 71 * S → nearest (b
 worth-most benefit deferred h =
     omega (arith, nearest-mono (benefit * deferred) (benefit * 71 * S) S (omega arith) (omega (arith, mul-le-mul {n₁ = benefit} {n₂ = benefit} (omega arith) h)), nearest-exact (benefit * 71) S (omega arith))
 
+pub plan-fair : (p : Plan) (rows : List (List ℕ)) → Fair (planBasis p rows)
+plan-fair p rows = payable-fair (p .pay) (basis-fair rows (p .retire) (p .interest))
+
 module _ (p : Plan) (rows : List (List ℕ)) (m : Member) (accepted : MemberRanges p rows m) where
   pub facts : PlanRanges p rows
   facts = accepted .plan
@@ -28,7 +32,7 @@ module _ (p : Plan) (rows : List (List ℕ)) (m : Member) (accepted : MemberRang
   pub sound : SoundSetting (settingOf p rows m)
   sound =
       record {
-        fair = basis-fair rows (p .retire) (p .interest);
+        fair = plan-fair p rows;
         retires = facts .head .retire .0;
         in-time = facts .head .retire .1;
         grown = accepted .in-range .grown;
@@ -49,7 +53,7 @@ module _ (p : Plan) (rows : List (List ℕ)) (m : Member) (accepted : MemberRang
 
   pub G-small : (k : ℕ) → G (planBasis p rows) k ≤ 71 * S
   G-small k =
-      omega (arith, G-most (planBasis p rows) (basis-fair rows (p .retire) (p .interest)) k (omega (arith, facts .head .retire .1)), mul-le-mul-right {m = 121 - p .retire} {n = 71} S (omega (arith, facts .head .retire .0)))
+      omega (arith, G-most (planBasis p rows) (plan-fair p rows) k (omega (arith, facts .head .retire .1)), mul-le-mul-right {m = 121 - p .retire} {n = 71} S (omega (arith, facts .head .retire .0)))
 
   -- the pay annuity from entry pays 1000 at least
   pub pay-least : 1000 * S ≤ Z (planBasis p rows) (m .entry) (p .retire)

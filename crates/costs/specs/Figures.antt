@@ -24,10 +24,14 @@ use Rattle.costs.specs.Setting.{Setting}
 use Rattle.costs.specs.Costs.{W, PV, cost, N, L}
 use Rattle.costs.specs.Valuation.{settingOf}
 
+-- rules 14.2 and 14.22: the plan of the short case, its pensions paid so many times a year
+abbrev short-paid : ℕ → Plan
+short-paid pay =
+    record { interest = 1000; retire = 65; pay = pay; formula = 1; unit = 10000; average = 0; method = 4; assets = 2000; years = 2 }
+
 -- rule 14.2: the plan and the member of the short case
 abbrev pub short-plan : Plan
-short-plan =
-    record { interest = 1000; retire = 65; formula = 1; unit = 10000; average = 0; method = 4; assets = 2000; years = 2 }
+short-plan = short-paid 1
 
 abbrev pub short-member : Member
 short-member = record { id = 7; entry = 63; age = 64; salary = 0 }
@@ -35,10 +39,14 @@ short-member = record { id = 7; entry = 63; age = 64; salary = 0 }
 abbrev pub short-setting : Setting
 short-setting = settingOf short-plan short short-member
 
+-- rule 14.22
+abbrev monthly-setting : Setting
+monthly-setting = settingOf (short-paid 12) short short-member
+
 -- rules 14.6 and 14.7, a benefit from pay, by a formula and an average
 abbrev pay-plan : ℕ → ℕ → Plan
 pay-plan formula average =
-    record { interest = 1000; retire = 65; formula = formula; unit = 200; average = average; method = 4; assets = 2000; years = 2 }
+    record { interest = 1000; retire = 65; pay = 1; formula = formula; unit = 200; average = average; method = 4; assets = 2000; years = 2 }
 
 abbrev benefit : ℕ → ℕ → ℕ → ℕ
 benefit formula average k = B (pay-plan formula average) short (record { id = 7; entry = 63; age = 64; salary = 1000000 }) k
@@ -46,7 +54,7 @@ benefit formula average k = B (pay-plan formula average) short (record { id = 7;
 -- rule 14.17, a benefit that lies halfway between the largest that is accepted and a cent more
 abbrev ceiling-plan : Plan
 ceiling-plan =
-    record { interest = 1000; retire = 60; formula = 3; unit = 500; average = 1; method = 4; assets = 2000; years = 2 }
+    record { interest = 1000; retire = 60; pay = 1; formula = 3; unit = 500; average = 1; method = 4; assets = 2000; years = 2 }
 
 abbrev ceiling-member : ℕ → Member
 ceiling-member salary = record { id = 7; entry = 30; age = 40; salary = salary }
@@ -76,6 +84,20 @@ member-figures =
     ∷ (L short-setting BP 63 is 0)
     ∷ (L short-setting CD 63 is 0)
     ∷ (L short-setting CP 63 is 0)
+    ∷ (PV monthly-setting 64 is 9848)
+    ∷ (PV monthly-setting 63 is 8953)
+    ∷ (N monthly-setting AB 64 is 4924)
+    ∷ (L monthly-setting AB 64 is 4924)
+    ∷ (N monthly-setting BD 64 is 4924)
+    ∷ (L monthly-setting BD 64 is 4924)
+    ∷ (N monthly-setting BP 64 is 5158)
+    ∷ (L monthly-setting BP 64 is 4690)
+    ∷ (N monthly-setting CD 64 is 4690)
+    ∷ (L monthly-setting CD 64 is 5158)
+    ∷ (N monthly-setting CP 64 is 4924)
+    ∷ (L monthly-setting CP 64 is 4924)
+    ∷ (planRefusal (short-paid 12) short is 0)
+    ∷ (planRefusal (short-paid 2) short is 11)
     ∷ (benefit 2 0 65 is 38182)
     ∷ (benefit 3 2 64 is 18182)
     ∷ (benefit 3 2 65 is 38182)

@@ -3,7 +3,7 @@ use Prim.Native.Nat.{ℕ, _+_, _≤_, _<_}
 use Rattle.annuity.specs.Basis.{Basis, Fair}
 
 pub record Setting : Type 0 where
-  pub basis : Basis  -- interest, retirement age, staying and weights
+  pub basis : Basis  -- interest, retirement age, how often a pension is paid, staying and weights
   pub B : ℕ → ℕ  -- the accrued benefit at an age, in whole cents
   pub y : ℕ  -- the entry age
 

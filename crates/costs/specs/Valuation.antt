@@ -5,7 +5,7 @@ use mathlib.Core.List.{List}
 use Prim.Native.Nat.{ℕ, _≤_}
 use lib.Dec.{eqb}
 use Rattle.fractions.specs.Ratio.{_over_}
-use Rattle.annuity.specs.Basis.{Basis, basis}
+use Rattle.annuity.specs.Basis.{Basis, basis, payable}
 use Rattle.annuity.specs.Accuracy.{Within}
 use Rattle.plan.specs.declared.Plan.{Plan}
 use Rattle.plan.specs.declared.Member.{Member}
@@ -26,7 +26,7 @@ methodOf code = cond (eqb code 1) AB (cond (eqb code 2) BD (cond (eqb code 3) BP
 
 -- the plan's basis
 abbrev pub planBasis : Plan → List (List ℕ) → Basis
-planBasis p rows = basis rows (p .retire) (p .interest)
+planBasis p rows = payable (p .pay) (basis rows (p .retire) (p .interest))
 
 module _ (p : Plan) (rows : List (List ℕ)) (m : Member) where
   -- what the figures rest on

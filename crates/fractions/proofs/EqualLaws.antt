@@ -1,8 +1,9 @@
 -- The laws of `≈`: what keeps it, and the equations of sums and products that hold by cross products only.
-use mathlib.Core.Path.{_≡_}
+use mathlib.Core.Path.{_≡_, ap}
+use Prim.Native.Nat.{ℕ, _+_, _-_, _*_}
 use native.Mathlib.Omega.{arith}
-use Rattle.fractions.specs.Ratio.{Ratio, _over_, whole, _⊕_, _⊗_, inverse, _⊘_, Proper, Positive, _≈_, _≼_}
-use Rattle.fractions.proofs.RatioLaws.{⊕-proper, ⊗-proper, inverse-proper}
+use Rattle.fractions.specs.Ratio.{Ratio, _over_, whole, _⊕_, _⊝_, _⊗_, inverse, _⊘_, Proper, Positive, _≈_, _≼_}
+use Rattle.fractions.proofs.RatioLaws.{⊕-proper, ⊝-proper, ⊗-proper, inverse-proper}
 use Rattle.fractions.proofs.OrderLaws.{≼-of, _∙≼_, ⊕-mono, ⊗-mono}
 
 pub ≈-refl : {a : Ratio} → Proper a → a ≈ a
@@ -37,6 +38,14 @@ zero-⊗ h = omega arith
 pub ⊕-⊗ : {a b c : Ratio} → Proper a → Proper b → Proper c → (a ⊕ b) ⊗ c ≈ a ⊗ c ⊕ b ⊗ c
 unfolding _⊗_ _⊕_
 ⊕-⊗ ha hb hc = omega (arith, ⊗-proper (⊕-proper ha hb) hc, ⊕-proper (⊗-proper ha hc) (⊗-proper hb hc))
+
+-- what is taken off and put back
+pub ⊝-⊕ : {a b : Ratio} → b ≼ a → (a ⊝ b) ⊕ b ≈ a
+unfolding _⊝_ _⊕_
+⊝-⊕ {a} {b} le =
+    let left : a .upper * b .lower ≡ (a .upper * b .lower - b .upper * a .lower) + b .upper * a .lower = omega arith in
+    let times = ap (λ (n : ℕ). n * (a .lower * b .lower)) left in
+    record { left = ⊕-proper (⊝-proper (le .right) (le .left)) (le .left); right = le .right; cross = omega arith }
 
 pub cancel : {a b : Ratio} → Proper a → Proper b → Positive b → a ⊗ b ⊘ b ≈ a
 unfolding _⊗_ inverse

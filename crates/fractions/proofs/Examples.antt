@@ -5,7 +5,7 @@ use mathlib.Core.List.{List, [], _∷_}
 use Prim.Native.Nat.{ℕ}
 use lib.Dec.{eqb}
 use lib.IntN.{ℤ, pos, negsuc}
-use Rattle.fractions.specs.Ratio.{_over_, whole, _⊕_, _⊗_, inverse, _⊘_}
+use Rattle.fractions.specs.Ratio.{_over_, whole, _⊕_, _⊝_, _⊗_, inverse, _⊘_}
 use Rattle.fractions.specs.Fraction.{Fraction, fraction, integer, _⊖_, _⊙_, opposite, size}
 
 infix 5 _is_upon_
@@ -25,6 +25,7 @@ all-are ((a is z upon d) ∷ cs) = same (a .upper) z && eqb (a .lower) d && all-
 -- `negsuc n` is −(n + 1)
 worked : all-are
     ((fraction (1 over 2 ⊕ 1 over 3) is pos 5 upon 6)
+    ∷ (fraction (1 over 2 ⊝ 1 over 3) is pos 1 upon 6)
     ∷ (fraction (2 over 3 ⊗ 3 over 4) is pos 6 upon 12)
     ∷ (fraction (whole 2 ⊘ 3 over 4) is pos 8 upon 3)
     ∷ (fraction (1 over 2) ⊖ fraction (1 over 3) is pos 1 upon 6)
@@ -35,5 +36,5 @@ worked : all-are
     ∷ (integer (negsuc 2) ⊙ 2 over 5 is negsuc 5 upon 5)
     ∷ [])
     ≡ true
-unfolding _over_ whole _⊕_ _⊗_ inverse fraction integer _⊖_ _⊙_ opposite size
+unfolding _over_ whole _⊕_ _⊝_ _⊗_ inverse fraction integer _⊖_ _⊙_ opposite size
 worked = refl

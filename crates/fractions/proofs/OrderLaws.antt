@@ -1,9 +1,9 @@
 -- The laws of `≼`: an order, kept by sums and products and turned round by inverses.
-use Prim.Native.Nat.{ℕ, _*_, _≤_, _<_}
+use Prim.Native.Nat.{ℕ, _-_, _*_, _≤_, _<_}
 use native.Mathlib.Omega.{arith}
 use native.Mathlib.Nat.{mul-le-mul-right, le-of-mul-le-mul-right}
-use Rattle.fractions.specs.Ratio.{Ratio, _over_, whole, _⊕_, _⊗_, Proper, _≈_, _≼_}
-use Rattle.fractions.proofs.RatioLaws.{⊕-proper, ⊗-proper}
+use Rattle.fractions.specs.Ratio.{Ratio, _over_, whole, _⊕_, _⊝_, _⊗_, Proper, _≈_, _≼_}
+use Rattle.fractions.proofs.RatioLaws.{⊕-proper, ⊝-proper, ⊗-proper}
 
 pub zero-≼ : {a : Ratio} → Proper a → whole 0 ≼ a
 unfolding whole _over_
@@ -40,6 +40,12 @@ unfolding _⊗_
 pub ≼-⊕ : {a b : Ratio} → Proper a → Proper b → a ≼ a ⊕ b
 unfolding _⊕_
 ≼-⊕ ha hb = record { left = ha; right = ⊕-proper ha hb; cross = omega arith }
+
+pub ⊝-≼ : {a b : Ratio} → Proper a → Proper b → a ⊝ b ≼ a
+unfolding _⊝_
+⊝-≼ {a} {b} ha hb =
+    let less = mul-le-mul-right {m = a .upper * b .lower - b .upper * a .lower} {n = a .upper * b .lower} (a .lower) (omega arith) in
+    record { left = ⊝-proper ha hb; right = ha; cross = omega arith }
 
 -- ---- whole numbers
 pub over-≼ : (m n : ℕ) {d e : ℕ} → 0 < d → 0 < e → m * e ≤ n * d → m over d ≼ n over e

@@ -3,7 +3,7 @@ use mathlib.Core.Path.{_≡_}
 use Prim.Native.Nat.{ℕ, _+_, _*_, _<_}
 use native.Mathlib.Omega.{arith}
 use native.Mathlib.Nat.{mul-pos}
-use Rattle.fractions.specs.Ratio.{Ratio, _over_, whole, _⊕_, _⊗_, inverse, _⊘_, Proper, Positive}
+use Rattle.fractions.specs.Ratio.{Ratio, _over_, whole, _⊕_, _⊝_, _⊗_, inverse, _⊘_, Proper, Positive}
 
 by-parts : {a b : Ratio} → (a .upper ≡ b .upper) × (a .lower ≡ b .lower) → a ≡ b
 by-parts p = λ i. record { upper = p .0 i; lower = p .1 i }
@@ -80,6 +80,10 @@ pub ⊕-proper : {a b : Ratio} → Proper a → Proper b → Proper (a ⊕ b)
 unfolding _⊕_
 ⊕-proper ha hb = omega (arith, mul-pos (ha .above) (hb .above))
 
+pub ⊝-proper : {a b : Ratio} → Proper a → Proper b → Proper (a ⊝ b)
+unfolding _⊝_
+⊝-proper ha hb = omega (arith, mul-pos (ha .above) (hb .above))
+
 pub ⊗-proper : {a b : Ratio} → Proper a → Proper b → Proper (a ⊗ b)
 unfolding _⊗_
 ⊗-proper ha hb = omega (arith, mul-pos (ha .above) (hb .above))
@@ -110,4 +114,4 @@ unfolding inverse
 inverse-positive ha = omega arith
 
 -- `search proper` proves that what is built of fractions is one, and of ratios above 0 that it is above 0
-pub ruleset proper = (over-proper, whole-proper, ⊕-proper, ⊗-proper, inverse-proper, over-positive, whole-positive, ⊕-positive, ⊗-positive, inverse-positive)
+pub ruleset proper = (over-proper, whole-proper, ⊕-proper, ⊝-proper, ⊗-proper, inverse-proper, over-positive, whole-positive, ⊕-positive, ⊗-positive, inverse-positive)

@@ -1,6 +1,6 @@
 -- Rules 10.2 and 10.3, fractions that are not below 0: two whole numbers, the lower above 0, compared by cross products.
 use mathlib.Core.Path.{_≡_}
-use Prim.Native.Nat.{ℕ, _+_, _*_, _≤_, _<_}
+use Prim.Native.Nat.{ℕ, _+_, _-_, _*_, _≤_, _<_}
 
 -- upper / lower
 pub record Ratio : Type 0 where
@@ -9,7 +9,7 @@ pub record Ratio : Type 0 where
 
 infix 8 _over_
 infixl 7 _⊗_ _⊘_
-infixl 6 _⊕_
+infixl 6 _⊕_ _⊝_
 infix 4 _≈_ _≼_
 -- n / d
 unfoldable pub _over_ : ℕ → ℕ → Ratio
@@ -22,6 +22,10 @@ whole n = n over 1
 -- a + b
 unfoldable pub _⊕_ : Ratio → Ratio → Ratio
 a ⊕ b = record { upper = a .upper * b .lower + b .upper * a .lower; lower = a .lower * b .lower }
+
+-- a − b, for a `b` that is `a` at most; the fractions of any sign have their own
+unfoldable pub _⊝_ : Ratio → Ratio → Ratio
+a ⊝ b = record { upper = a .upper * b .lower - b .upper * a .lower; lower = a .lower * b .lower }
 
 -- a × b
 unfoldable pub _⊗_ : Ratio → Ratio → Ratio

@@ -35,7 +35,7 @@ module _ (method : Bool) (s values : List ℕ) {e : ℕ} (at : e ≡ seekOf 10 s
         answers-good (wordOf method) s known (good-line s (has-line s at whole) at) all (record { is = all; size = size })
 
 -- ---- past the last term no line is one
-pub no-form : (k : ℕ) (s : List ℕ) (known : Type 0) {r : Line} → 8 ≤ k → r ≡ cond (hasOf 10 s) Wrong Cut → Answers (termForm k) s r known
+pub no-form : (k : ℕ) (s : List ℕ) (known : Type 0) {r : Line} → 9 ≤ k → r ≡ cond (hasOf 10 s) Wrong Cut → Answers (termForm k) s r known
 unfolding termForms
 no-form k s known {r} far unread = pick (hasOf 10 s) refl unread
   where

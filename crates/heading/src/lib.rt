@@ -96,12 +96,13 @@ fn term_line(s: &[u8], k: usize, values: &mut Read) -> Line
     match k {
         0 => one_value(s, b"interest=", false, values),
         1 => one_value(s, b"retire=", false, values),
-        2 => word_line(s, false, values),
-        3 => one_value(s, b"unit=", false, values),
-        4 => one_value(s, b"average=", false, values),
-        5 => word_line(s, true, values),
-        6 => one_value(s, b"assets=", true, values),
-        7 => one_value(s, b"years=", false, values),
+        2 => one_value(s, b"pay=", false, values),
+        3 => word_line(s, false, values),
+        4 => one_value(s, b"unit=", false, values),
+        5 => one_value(s, b"average=", false, values),
+        6 => word_line(s, true, values),
+        7 => one_value(s, b"assets=", true, values),
+        8 => one_value(s, b"years=", false, values),
         _ => unread(s),
     }
 }

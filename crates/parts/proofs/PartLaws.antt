@@ -9,8 +9,6 @@ use lib.Dec.{ltb}
 use borrow.Author.Tests.{ltb-true}
 use Rattle.rounding.specs.Nearest.{nearest}
 use Rattle.rounding.proofs.NearestLaws.{nearest-exact}
-use Rattle.annuity.specs.Basis.{Fair}
-use Rattle.annuity.proofs.Bases.{basis-fair}
 use Rattle.annuity.proofs.Sizes.{T-least, T-longer, Z-longer}
 use Rattle.plan.specs.declared.Plan.{Plan}
 use Rattle.plan.specs.declared.Member.{Member}
@@ -24,14 +22,11 @@ use Rattle.parts.specs.declared.Parts.{Parts}
 use Rattle.parts.specs.Parts.{earned, adds, divisor, partsAt, costFactor, liabilityFactor, figuresFrom, SmallParts, From-Parts}
 use Rattle.costs.proofs.RollForward.{M-positive}
 use Rattle.costs.proofs.Limits.{B-most, M-split, W-most}
-use Rattle.costs.proofs.Needs.{facts, sound, G-small, pay-least}
+use Rattle.costs.proofs.Needs.{facts, plan-fair, sound, G-small, pay-least}
 
 module _ (p : Plan) (rows : List (List ℕ)) (m : Member) (accepted : MemberRanges p rows m) where
   abbrev c : Setting
   c = settingOf p rows m
-
-  fair : Fair (planBasis p rows)
-  fair = basis-fair rows (p .retire) (p .interest)
 
   -- ---- the parts fit
   pub divided : (method : Method) → 0 < divisor c method
@@ -45,8 +40,8 @@ module _ (p : Plan) (rows : List (List ℕ)) (m : Member) (accepted : MemberRang
   earned-most AB k from to = omega (arith, B-most c (sound p rows m accepted) k from to)
   earned-most BD k from to = omega arith
   earned-most BP k from to = omega (arith, M-split c (sound p rows m accepted) k from to)
-  earned-most CD k from to = T-longer (planBasis p rows) fair (m .entry) k (p .retire) from to
-  earned-most CP k from to = Z-longer (planBasis p rows) fair (m .entry) k (p .retire) from to
+  earned-most CD k from to = T-longer (planBasis p rows) (plan-fair p rows) (m .entry) k (p .retire) from to
+  earned-most CP k from to = Z-longer (planBasis p rows) (plan-fair p rows) (m .entry) k (p .retire) from to
 
   pub adds-most : (method : Method) (k : ℕ) → m .entry ≤ k → k < p .retire → adds c k method ≤ divisor c method
   adds-most AB k from below = omega (arith, B-most c (sound p rows m accepted) (k + 1) (omega arith) (omega arith))

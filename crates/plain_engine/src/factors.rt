@@ -19,7 +19,7 @@ pub(crate) fn parts_at(p: Plan, rows: &Rows, m: Member, method: Method, k: usize
     requires { ⌜ MemberRanges p (now rows) m × (m .entry ≤ k) × (k ≤ p .retire) ⌝ }
     ensures { λ q. ⌜ q ≡ partsAt (settingOf p (now (rows .entry)) m) k method ⌝ }
 {
-    let annuity = annuity::deferred_annuity(*rows, p.retire as usize, p.interest);
+    let annuity = annuity::deferred_annuity(*rows, p.retire as usize, p.pay, p.interest);
     let past = temporary(p, rows, m, method, k);
     let all = temporary(p, rows, m, method, p.retire as usize);
     parts_from(p, rows, m, method, k, &annuity, past, all)

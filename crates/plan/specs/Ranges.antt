@@ -1,6 +1,7 @@
 -- What the ranges of RULES sections 2, 3 and 4 leave of a plan, its rows and a member: all that the benefit and the
 -- methods ask of them. Accepting shows it (crate `acceptance`).
 use mathlib.Core.Path.{_≡_}
+use mathlib.Core.Logic.{_⊎_}
 use mathlib.Core.List.{List}
 use Prim.Native.Nat.{ℕ, _+_, _≤_, _<_}
 use Rattle.rates.specs.Table.{weight, Table}
@@ -8,10 +9,11 @@ use Rattle.plan.specs.declared.Plan.{Plan}
 use Rattle.plan.specs.declared.Member.{Member}
 use Rattle.plan.specs.Benefit.{B}
 
--- what rules 2.2 to 2.9 leave of a heading; of rule 2.6 only what final needs
+-- what rules 2.2 to 2.10 leave of a heading; of rule 2.6 only what final needs
 pub record HeadRanges (p : Plan) : Type 0 where
   pub interest : p .interest ≤ 2000
   pub retire : (50 ≤ p .retire) × (p .retire ≤ 75)
+  pub pay : (p .pay ≡ 1) ⊎ (p .pay ≡ 12)
   pub formula : (1 ≤ p .formula) × (p .formula ≤ 3)
   pub flat-unit : p .unit ≤ 100000
   pub pay-unit : (p .formula ≡ 1 → ⊥) → p .unit ≤ 500

@@ -24,6 +24,7 @@ pub enum Method {
 pub struct Plan {
     pub interest: u64,
     pub retire: u64,
+    pub pay: u64,
     pub formula: u64,
     pub unit: u64,
     pub average: u64,
@@ -33,7 +34,7 @@ pub struct Plan {
 }
 
 // Rule 2.1: so many terms has a plan, and their values in the order of the heading's lines.
-pub const TERMS: usize = 8;
+pub const TERMS: usize = 9;
 
 pub type Terms = [u64; TERMS];
 

@@ -15,7 +15,7 @@ use Rattle.rules.proofs.RuleLaws.{first-refuses, first-passes}
 pub past : {n k : ℕ} → n ≤ k → (k ≡ n → ⊥) → n + 1 ≤ k
 past h other = ⊎-elim (λ e. absurd (other (sym e))) (λ l. omega arith) (eq-or-lt-of-le h)
 
-pub no-term : (k : ℕ) (terms : List ℕ) (v : ℕ) → 8 ≤ k → 0 ≡ termRule k terms v
+pub no-term : (k : ℕ) (terms : List ℕ) (v : ℕ) → 9 ≤ k → 0 ≡ termRule k terms v
 no-term k terms v h = sym (ap (λ (r : TermRule). r terms v) (List·getD-eq-default termRules (λ b v. 0) h))
 
 -- a rule looks at no term but those before it
@@ -23,12 +23,13 @@ pub only-before : (k : ℕ) (t : List ℕ) (v : ℕ) → termRule k (take k t) v
 only-before zero t v = refl
 only-before (suc zero) t v = refl
 only-before (suc (suc zero)) t v = refl
-only-before (suc (suc (suc zero))) t v = ap (λ (f : ℕ). unitRule f v) (getD-take 3 t 2 0 (omega arith))
-only-before (suc (suc (suc (suc zero)))) t v = ap (λ (f : ℕ). averageRule f v) (getD-take 4 t 2 0 (omega arith))
-only-before (suc (suc (suc (suc (suc zero))))) t v = refl
+only-before (suc (suc (suc zero))) t v = refl
+only-before (suc (suc (suc (suc zero)))) t v = ap (λ (f : ℕ). unitRule f v) (getD-take 4 t 3 0 (omega arith))
+only-before (suc (suc (suc (suc (suc zero))))) t v = ap (λ (f : ℕ). averageRule f v) (getD-take 5 t 3 0 (omega arith))
 only-before (suc (suc (suc (suc (suc (suc zero)))))) t v = refl
 only-before (suc (suc (suc (suc (suc (suc (suc zero))))))) t v = refl
-only-before (suc (suc (suc (suc (suc (suc (suc (suc k)))))))) t v = refl
+only-before (suc (suc (suc (suc (suc (suc (suc (suc zero)))))))) t v = refl
+only-before (suc (suc (suc (suc (suc (suc (suc (suc (suc k))))))))) t v = refl
 
 -- each is ruled by the rule of its place
 ruled-at : (rules : List TermRule) (before t : List ℕ) (k : ℕ) → k < length rules → k < length t → getD (ruled rules before t) k 0 ≡ getD rules k (λ b v. 0) (before ++ take k t) (getD t k 0)

@@ -1,5 +1,5 @@
 -- The terms of a plan and their rules, RULES section 2. Cents for money.
-use mathlib.Core.Bool.{cond}
+use mathlib.Core.Bool.{cond, _||_}
 use mathlib.Core.List.{List, [], _∷_, _++_}
 use Prim.Native.Nat.{ℕ}
 use lib.ListN.{getD}
@@ -14,6 +14,10 @@ interestRule i = unless (leb i 2000) outOfRange
 
 abbrev pub retireRule : ℕ → ℕ
 retireRule r = unless (between 50 75 r) outOfRange
+
+-- rule 2.10, pay: a pension is paid once or 12 times a year
+abbrev pub payRule : ℕ → ℕ
+payRule pay = unless (eqb pay 1 || eqb pay 12) outOfRange
 
 -- rule 5.4, codes: 1 flat, 2 career, 3 final; 1 AB, 2 BD, 3 BP, 4 CD, 5 CP; any other is refused with 10
 abbrev pub formulaRule : ℕ → ℕ
@@ -44,13 +48,14 @@ TermRule = (before : List ℕ) → (value : ℕ) → ℕ
 
 -- the formula, once it has been read
 abbrev pub formulaIn : List ℕ → ℕ
-formulaIn before = getD before 2 0
+formulaIn before = getD before 3 0
 
 -- rule 2.1: the rules of the terms, in the order of the lines
 abbrev pub termRules : List TermRule
 termRules =
     (λ before i. interestRule i)
     ∷ (λ before r. retireRule r)
+    ∷ (λ before pay. payRule pay)
     ∷ (λ before code. formulaRule code)
     ∷ (λ before unit. unitRule (formulaIn before) unit)
     ∷ (λ before average. averageRule (formulaIn before) average)
@@ -66,7 +71,7 @@ termRule k = getD termRules k (λ before v. 0)
 -- the terms of a plan, in the order of the lines
 abbrev pub termsOf : Plan → List ℕ
 termsOf p =
-    p .interest ∷ p .retire ∷ p .formula ∷ p .unit ∷ p .average ∷ p .method ∷ p .assets ∷ p .years ∷ []
+    p .interest ∷ p .retire ∷ p .pay ∷ p .formula ∷ p .unit ∷ p .average ∷ p .method ∷ p .assets ∷ p .years ∷ []
 
 -- and the plan of some terms
 abbrev pub planFrom : List ℕ → Plan
@@ -74,12 +79,13 @@ planFrom t =
     record {
       interest = getD t 0 0;
       retire = getD t 1 0;
-      formula = getD t 2 0;
-      unit = getD t 3 0;
-      average = getD t 4 0;
-      method = getD t 5 0;
-      assets = getD t 6 0;
-      years = getD t 7 0;
+      pay = getD t 2 0;
+      formula = getD t 3 0;
+      unit = getD t 4 0;
+      average = getD t 5 0;
+      method = getD t 6 0;
+      assets = getD t 7 0;
+      years = getD t 8 0;
     }
 
 -- each by its rule

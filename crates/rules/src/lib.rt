@@ -7,7 +7,7 @@ pub mod rows;
 pub mod terms;
 
 ghost use mathlib.Core.Path.{_≡_};
-ghost use mathlib.Core.Bool.{_&&_, cond};
+ghost use mathlib.Core.Bool.{_&&_, _||_, cond};
 ghost use lib.Dec.{eqb};
 ghost use Rattle.rules.specs.Rules.{unless as Rules·unless, between as Rules·between};
 
@@ -15,6 +15,12 @@ pub fn both(a: bool, b: bool) -> bool
     ensures { λ r. ⌜ r ≡ a && b ⌝ }
 {
     if a { b } else { false }
+}
+
+pub fn either(a: bool, b: bool) -> bool
+    ensures { λ r. ⌜ r ≡ a || b ⌝ }
+{
+    if a { true } else { b }
 }
 
 pub fn between(lo: u64, hi: u64, n: u64) -> bool

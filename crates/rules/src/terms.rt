@@ -1,4 +1,5 @@
 // The terms of a plan in the order of the heading's lines (rule 2.1), the rule of each, and their order.
+use crate::either;
 use crate::refusals::OUT_OF_RANGE;
 use crate::refusals::PLAN_FORM;
 use crate::refusals::WRONG_AVERAGE;
@@ -11,7 +12,7 @@ ghost use mathlib.Core.Path.{_≡_};
 ghost use mathlib.Core.List.{[]};
 ghost use lib.ListN.{length};
 ghost use Rattle.rules.specs.Rules.{firstOf};
-ghost use Rattle.rules.specs.Heading.{unitRule, averageRule, termRule, termRules, termsOf, planFrom, ruled, headRules};
+ghost use Rattle.rules.specs.Heading.{payRule, unitRule, averageRule, termRule, termRules, termsOf, planFrom, ruled, headRules};
 
 // The rule of the term with k before it, for the value v: a refusal's number, or 0. Of `terms` only those before it count.
 pub fn term_rule(k: usize, terms: &Terms, v: u64) -> u64
@@ -20,14 +21,22 @@ pub fn term_rule(k: usize, terms: &Terms, v: u64) -> u64
     match k {
         0 => unless(v <= 2000, OUT_OF_RANGE),
         1 => unless_between(50, 75, v, OUT_OF_RANGE),
-        2 => unless_between(1, 3, v, PLAN_FORM),
-        3 => unit_rule(terms[2], v),
-        4 => average_rule(terms[2], v),
-        5 => unless_between(1, 5, v, PLAN_FORM),
-        6 => unless(v <= 99_999_999_999_999, OUT_OF_RANGE),
-        7 => unless_between(1, 40, v, OUT_OF_RANGE),
+        2 => pay_rule(v),
+        3 => unless_between(1, 3, v, PLAN_FORM),
+        4 => unit_rule(terms[3], v),
+        5 => average_rule(terms[3], v),
+        6 => unless_between(1, 5, v, PLAN_FORM),
+        7 => unless(v <= 99_999_999_999_999, OUT_OF_RANGE),
+        8 => unless_between(1, 40, v, OUT_OF_RANGE),
         _ => 0,
     }
+}
+
+// Rule 2.10: a pension is paid by the year or by the month.
+fn pay_rule(pay: u64) -> u64
+    ensures { λ r. ⌜ r ≡ payRule pay ⌝ }
+{
+    unless(either(pay == 1, pay == 12), OUT_OF_RANGE)
 }
 
 // Rule 2.5: cents a year by flat, else basis points of pay.
@@ -52,7 +61,7 @@ fn average_rule(formula: u64, average: u64) -> u64
     }
 }
 
-// The heading, rules 2.2 to 2.9.
+// The heading, rules 2.2 to 2.10.
 pub fn head_refusal(p: Plan) -> u64
     ensures { λ r. ⌜ r ≡ firstOf (headRules p) ⌝ }
 {
@@ -83,6 +92,7 @@ fn terms_of(p: Plan) -> Terms
     [
         p.interest,
         p.retire,
+        p.pay,
         p.formula,
         p.unit,
         p.average,
@@ -99,11 +109,12 @@ pub fn plan_from(terms: &Terms) -> Plan
     Plan {
         interest: terms[0],
         retire: terms[1],
-        formula: terms[2],
-        unit: terms[3],
-        average: terms[4],
-        method: terms[5],
-        assets: terms[6],
-        years: terms[7],
+        pay: terms[2],
+        formula: terms[3],
+        unit: terms[4],
+        average: terms[5],
+        method: terms[6],
+        assets: terms[7],
+        years: terms[8],
     }
 }

@@ -31,7 +31,7 @@ use Rattle.statements.specs.Engines.{by-definition, figuresFromKept, fig
 -- rule 14.8, the short plan overfunded: no member, and assets of 100.00
 abbrev over-plan : Plan
 over-plan =
-    record { interest = 1000; retire = 65; formula = 1; unit = 10000; average = 0; method = 4; assets = 10000; years = 2 }
+    record { interest = 1000; retire = 65; pay = 1; formula = 1; unit = 10000; average = 0; method = 4; assets = 10000; years = 2 }
 
 -- a figure below 0: with its size added it is 0
 unfoldable pub proved-set : List Figure

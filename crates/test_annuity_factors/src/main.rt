@@ -1,6 +1,6 @@
 // Reads cases from standard input, one after another, and writes the factors of each: A, G, T, Z and C, a line for each
-// letter. A case is bytes, a number's little end first: the interest i in 2, then r, e and m in 1 each, then for each
-// age 15 to 120 its death, withdrawal, disability and weight in 4 each. A case that the annuity functions do not take
+// letter. A case is bytes, a number's little end first: the interest i in 2, then r, pay, e and m in 1 each, then for
+// each age 15 to 120 its death, withdrawal, disability and weight in 4 each. A case that the annuity functions do not take
 // is skipped. What it must write was made by another program, tests/annuity_factors.py.
 use annuity::Factors;
 use libc::STDIN_FILENO;
@@ -14,10 +14,10 @@ ghost use Prim.Native.Nat.{_≤_};
 ghost use Rattle.test_annuity_factors.specs.Question.{Question};
 
 // How many bytes a case has.
-const SIZE: usize = 1701;
+const SIZE: usize = 1702;
 
 // The place of the first row.
-const ROWS: usize = 5;
+const ROWS: usize = 6;
 
 // A proved loop has to end, and nothing says that the input does: no run uses up these turns.
 fn main() {
@@ -40,14 +40,15 @@ fn case() -> bool {
 fn answer(bytes: &[u8; SIZE]) {
     let i = byte(bytes[0]) + 256 * byte(bytes[1]);
     let r = age(bytes[2]);
-    let e = age(bytes[3]);
-    let m = byte(bytes[4]);
-    write(rows_at(bytes, ROWS), i, r, e, m);
+    let pay = byte(bytes[3]);
+    let e = age(bytes[4]);
+    let m = byte(bytes[5]);
+    write(rows_at(bytes, ROWS), i, r, pay, e, m);
 }
 
-fn write(rows: Rows, i: u64, r: usize, e: usize, m: u64) {
+fn write(rows: Rows, i: u64, r: usize, pay: u64, e: usize, m: u64) {
     if is_question(rows, i, r, e, m) {
-        factors(rows, i, r, e, m);
+        factors(rows, i, r, pay, e, m);
     } else {
         io::write_all(STDOUT_FILENO, b"skipped\n");
     }
@@ -62,11 +63,11 @@ fn is_question(rows: Rows, i: u64, r: usize, e: usize, m: u64) -> bool
     bench_annuity::is_table(rows)
 }
 
-fn factors(rows: Rows, i: u64, r: usize, e: usize, m: u64)
+fn factors(rows: Rows, i: u64, r: usize, pay: u64, e: usize, m: u64)
     requires { ⌜ Question rows i r e m ⌝ }
 {
     line(b"A", annuity::life_annuity(rows, r, i), 120);
-    line(b"G", annuity::deferred_annuity(rows, r, i), r);
+    line(b"G", annuity::deferred_annuity(rows, r, pay, i), r);
     line(b"T", annuity::working_annuity(rows, r, i, e), e);
     line(b"Z", annuity::pay_annuity(rows, r, i, e), e);
     io::write_all(STDOUT_FILENO, b"C");

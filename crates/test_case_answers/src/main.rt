@@ -86,6 +86,7 @@ fn accepting(case: &[u8]) {
 fn terms(p: Plan) {
     term(p.interest);
     term(p.retire);
+    term(p.pay);
     term(p.formula);
     term(p.unit);
     term(p.average);

@@ -1,7 +1,7 @@
 // Reads cases from standard input, one after another, and writes three lines for each: what accepting the plan answers,
 // what accepting the lone member answers, and what valuing it does, `figures=` B(r), V, N and L in cents. A refusal is
-// `refused=` its number and its line. A case is bytes, a number's little end first: the plan's interest, retire, formula,
-// unit, average, method, assets and years in 8 each, then for each age 15 to 120 its death, withdrawal, disability and
+// `refused=` its number and its line. A case is bytes, a number's little end first: the plan's interest, retire, pay,
+// formula, unit, average, method, assets and years in 8 each, then for each age 15 to 120 its death, withdrawal, disability and
 // weight in 4 each, then the member's id, entry, age and salary in 8 each. What it must write was made by another
 // program, tests/member_figures.py.
 use acceptance::Acceptance;
@@ -20,13 +20,13 @@ use test_support::rows_at;
 ghost use Prim.Native.Nat.{_+_, _≤_, _<_};
 
 // How many bytes a case has.
-const SIZE: usize = 1792;
+const SIZE: usize = 1800;
 
 // The place of the first row.
-const ROWS: usize = 64;
+const ROWS: usize = 72;
 
 // The place of the member.
-const MEMBER: usize = 1760;
+const MEMBER: usize = 1768;
 
 // A proved loop has to end, and nothing says that the input does: no run uses up these turns.
 fn main() {
@@ -80,12 +80,13 @@ fn plan_of(bytes: &[u8; SIZE]) -> Plan {
     Plan {
         interest: long_at(bytes, 0),
         retire: long_at(bytes, 8),
-        formula: long_at(bytes, 16),
-        unit: long_at(bytes, 24),
-        average: long_at(bytes, 32),
-        method: long_at(bytes, 40),
-        assets: long_at(bytes, 48),
-        years: long_at(bytes, 56),
+        pay: long_at(bytes, 16),
+        formula: long_at(bytes, 24),
+        unit: long_at(bytes, 32),
+        average: long_at(bytes, 40),
+        method: long_at(bytes, 48),
+        assets: long_at(bytes, 56),
+        years: long_at(bytes, 64),
     }
 }
 
@@ -100,7 +101,7 @@ fn member_of(bytes: &[u8; SIZE]) -> Member {
 
 // A number of 8 bytes.
 fn long_at(bytes: &[u8; SIZE], at: usize) -> u64
-    requires { ⌜ at + 8 ≤ 1792 ⌝ }
+    requires { ⌜ at + 8 ≤ 1800 ⌝ }
 {
     let low = long(number_at(bytes, at));
     let high = long(number_at(bytes, at + 4));

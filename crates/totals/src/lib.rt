@@ -113,7 +113,7 @@ fn fill_shared(p: Plan, rows: Rows, members: &Members, count: usize, worked: &mu
     requires { ⌜ AcceptedMembers p rows (now members) count ⌝ }
     ensures { λ _. ⌜ AreWorked p rows (now (members .entry)) (now (worked .exit)) count ⌝ }
 {
-    let g = deferred_annuity(rows, p.retire as usize, p.interest);
+    let g = deferred_annuity(rows, p.retire as usize, p.pay, p.interest);
     let mut columns = [[0u64; AGES]; ENDS];
     let mut marks = [false; ENDS];
     fill_from_shared(

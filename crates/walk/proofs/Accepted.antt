@@ -54,8 +54,9 @@ terms-back (a ∷ b ∷ c ∷ d ∷ []) n = absurd (omega arith)
 terms-back (a ∷ b ∷ c ∷ d ∷ e ∷ []) n = absurd (omega arith)
 terms-back (a ∷ b ∷ c ∷ d ∷ e ∷ f ∷ []) n = absurd (omega arith)
 terms-back (a ∷ b ∷ c ∷ d ∷ e ∷ f ∷ g ∷ []) n = absurd (omega arith)
-terms-back (a ∷ b ∷ c ∷ d ∷ e ∷ f ∷ g ∷ h ∷ []) n = refl
-terms-back (a ∷ b ∷ c ∷ d ∷ e ∷ f ∷ g ∷ h ∷ i ∷ t) n = absurd (omega arith)
+terms-back (a ∷ b ∷ c ∷ d ∷ e ∷ f ∷ g ∷ h ∷ []) n = absurd (omega arith)
+terms-back (a ∷ b ∷ c ∷ d ∷ e ∷ f ∷ g ∷ h ∷ i ∷ []) n = refl
+terms-back (a ∷ b ∷ c ∷ d ∷ e ∷ f ∷ g ∷ h ∷ i ∷ j ∷ t) n = absurd (omega arith)
 
 head-kept : (t : List ℕ) → length t ≡ length termForms → Each termRefusal t ↔ (firstOf (headRules (planFrom t)) ≡ 0)
 unfolding termForms headRules

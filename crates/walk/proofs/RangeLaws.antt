@@ -2,7 +2,7 @@
 use Prim.Native.Nat.{ℕ, zero, suc}
 use mathlib.Core.Path.{_≡_, refl}
 use mathlib.Core.List.{List, [], _∷_, _++_}
-use mathlib.Core.Bool.{Bool, true, false, cond, _&&_}
+use mathlib.Core.Bool.{Bool, true, false, cond, _&&_, _||_}
 use mathlib.Core.Logic.{_⊎_, inl, inr}
 use lib.ListN.{length, getD}
 use lib.Dec.{leb, ltb, eqb, eqb·suc-zero}
@@ -111,14 +111,17 @@ all-fit = (
   (
     (λ line before vs e. rule-ranged (between 50 75 (getD vs 0 0)) of-a-term),
     (
-      formula-fits,
+      (λ line before vs e. rule-ranged (eqb (getD vs 0 0) 1 || eqb (getD vs 0 0) 12) of-a-term),
       (
-        (λ line before vs e. rule-ranged (leb (getD vs 0 0) (cond (eqb (formulaIn before) 1) 100000 500)) of-a-term),
+        formula-fits,
         (
-          (λ line before vs e. rule-ranged (cond (eqb (formulaIn before) 3) (between 1 10 (getD vs 0 0)) (eqb (getD vs 0 0) 0)) of-average),
+          (λ line before vs e. rule-ranged (leb (getD vs 0 0) (cond (eqb (formulaIn before) 1) 100000 500)) of-a-term),
           (
-            method-fits,
-            ((λ line before vs e. rule-ranged (leb (getD vs 0 0) 99999999999999) of-a-term), ((λ line before vs e. rule-ranged (between 1 40 (getD vs 0 0)) of-a-term), tt)),
+            (λ line before vs e. rule-ranged (cond (eqb (formulaIn before) 3) (between 1 10 (getD vs 0 0)) (eqb (getD vs 0 0) 0)) of-average),
+            (
+              method-fits,
+              ((λ line before vs e. rule-ranged (leb (getD vs 0 0) 99999999999999) of-a-term), ((λ line before vs e. rule-ranged (between 1 40 (getD vs 0 0)) of-a-term), tt)),
+            ),
           ),
         ),
       ),

@@ -53,7 +53,7 @@ pub data RangeNumber : ℕ → Type 0 where
   of-line : {n : ℕ} → (section : Section) → RangeOf section n → RangeNumber n
 
 -- ---- which lines a number can have: 0 for the file's size, and else those of its section
--- rule 1.7: 8 lines of terms, 106 rows, at most 1,000 members and the end
+-- rule 1.7: 9 lines of terms, 106 rows, at most 1,000 members and the end
 abbrev pub LinesOf : Section → ℕ → Type 0
 LinesOf in-heading l = (1 ≤ l) × (l ≤ length termForms)
 LinesOf in-table l = (length termForms < l) × (l ≤ length termForms + ages)

@@ -26,6 +26,7 @@ unfoldable pub termForms : List (List ℕ → Values)
 termForms =
     keyedOf (bytes "interest=") wholeOf 0
     ∷ keyedOf (bytes "retire=") wholeOf 0
+    ∷ keyedOf (bytes "pay=") wholeOf 0
     ∷ formulaWord
     ∷ keyedOf (bytes "unit=") wholeOf 0
     ∷ keyedOf (bytes "average=") wholeOf 0

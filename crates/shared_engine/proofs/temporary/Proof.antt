@@ -6,6 +6,8 @@ use Rattle.rates.specs.Table.{Table}
 use Rattle.plan.specs.declared.Plan.{Plan}
 use Rattle.plan.specs.declared.Member.{Member}
 use Rattle.plan.specs.Ranges.{MemberRanges}
+use Rattle.annuity.specs.Basis.{basis}
+use Rattle.annuity.proofs.Bases.{T-payable, Z-payable}
 use Rattle.columns.proofs.ColumnLaws.{as-they-were}
 use Rattle.costs.proofs.Needs.{facts}
 use borrow.Author.Needs.{needs}
@@ -23,14 +25,14 @@ working-between-requires c κs =
     let s = c .before .before .before .before in
     let a = s .args in
     let q = asked (a .p) (a .rows .now) (a .m) (s .pre .0) (a .e) (s .pre .1) (s .pre .2) in
-    (q .0, omega (arith, q .1), q .2, q .3, q .4, rw (c .before .before .enum-told4 .given .1) at (s .pre .3))
+    (q .0, omega (arith, q .1), q .2, q .3, q .4, rw (T-payable (a .p .pay) (basis (a .rows .now) (a .p .retire) (a .p .interest))) at (rw (c .before .before .enum-told4 .given .1) at (s .pre .3)))
 
 pay-between-requires : tie.Need-pay-between-requires
 pay-between-requires c κs =
     let s = c .before .before .before .before in
     let a = s .args in
     let q = asked (a .p) (a .rows .now) (a .m) (s .pre .0) (a .e) (s .pre .1) (s .pre .2) in
-    (q .0, omega (arith, q .1), q .2, q .3, q .4, rw (c .before .before .enum-told5 .given .1) at (s .pre .3))
+    (q .0, omega (arith, q .1), q .2, q .3, q .4, rw (Z-payable (a .p .pay) (basis (a .rows .now) (a .p .retire) (a .p .interest))) at (rw (c .before .before .enum-told5 .given .1) at (s .pre .3)))
 
 pub temporary-spec : {M : Type 1} → statement M
 temporary-spec =
@@ -46,5 +48,5 @@ temporary-spec =
     (λ c. (rw (c .enum-told .given .1), as-they-were (c .before .before .pre .3)))
     (λ c. (rw (c .enum-told2 .given .1), as-they-were (c .before .before .pre .3)))
     (λ c. (rw (c .enum-told3 .given .1), as-they-were (c .before .before .pre .3)))
-    (λ c. rw (c .before .before .before .enum-told4 .given .1) (c .working-between .ensures))
-    (λ c. rw (c .before .before .before .enum-told5 .given .1) (c .pay-between .ensures)))
+    (λ c. let a = c .before .before .before .before .before .args in rw (c .before .before .before .enum-told4 .given .1, T-payable (a .p .pay) (basis (a .rows .now) (a .p .retire) (a .p .interest))) (c .working-between .ensures))
+    (λ c. let a = c .before .before .before .before .before .args in rw (c .before .before .before .enum-told5 .given .1, Z-payable (a .p .pay) (basis (a .rows .now) (a .p .retire) (a .p .interest))) (c .pay-between .ensures)))

@@ -1,6 +1,9 @@
 -- `plain_engine::factors::pay_from_entry` meets its contract.
-use mathlib.Core.Path.{_∙_}
+use mathlib.Core.Path.{sym, ap, _∙_}
+use Prim.Native.Nat.{ℕ}
 use native.Mathlib.Nat.{le-refl, le-trans}
+use Rattle.annuity.specs.Basis.{basis}
+use Rattle.annuity.proofs.Bases.{Z-payable}
 use Rattle.costs.proofs.Needs.{in-table, workable}
 use Rattle.plain_engine.proofs.factors.pay_from_entry.Statement.{statement}
 use Rattle.plain_engine.proofs.factors.pay_from_entry.Tie as tie
@@ -19,7 +22,9 @@ of-age-requires c κs =
 returns : tie.Need-returns
 returns c =
     let s = c .before .before .before .before in
-    c .of-age .ensures ∙ c .before .before .pay-annuity .ensures .upto (s .args .m .entry) (s .pre .0 .in-range .grown) (s .pre .1)
+    let a = s .args in
+    let own = c .of-age .ensures ∙ c .before .before .pay-annuity .ensures .upto (a .m .entry) (s .pre .0 .in-range .grown) (s .pre .1) in
+    own ∙ ap (λ (f : ℕ → ℕ → ℕ). f (a .m .entry) (a .e)) (sym (Z-payable (a .p .pay) (basis (a .rows .now) (a .p .retire) (a .p .interest))))
 
 pub pay-from-entry-spec : {M : Type 1} → statement M
 pay-from-entry-spec = tie.close (tie.spec pay-annuity-requires of-age-requires returns)
