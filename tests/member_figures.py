@@ -125,9 +125,9 @@ def worked_bounds(plan):
 
 
 def worked_pays(plan):
-    """Rule 2.10: of a wrong pay, alone or beside a wrong term before it or after it."""
+    """Rules 2.10 and 14.23: a wrong pay, alone and before a wrong formula."""
     for pay in NO_PAYS:
-        for others in (dict(), dict(retire=49), dict(formula=4)):
+        for others in (dict(), dict(formula=4)):
             yield Case(plan._replace(pay=pay, **others), short_table(), Member(7, 63, 64, 0)), 11
 
 

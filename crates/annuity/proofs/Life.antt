@@ -1,8 +1,8 @@
 -- The life annuity A, rounded and exact: it has a payment at least and at most one for each age, and how far the two lie apart.
-use Prim.Native.Nat.{ℕ, _+_, _-_, _*_, _≤_}
+use Prim.Native.Nat.{ℕ, _-_, _*_, _≤_}
 use native.Mathlib.Nat.{le-refl}
 use native.Mathlib.Omega.{arith}
-use Rattle.fractions.specs.Ratio.{_over_, whole, _⊕_, Proper, _≼_}
+use Rattle.fractions.specs.Ratio.{_over_, whole, Proper, _≼_}
 use Rattle.fractions.proofs.RatioLaws.{whole-proper}
 use Rattle.fractions.proofs.OrderLaws.{≼-refl, _∙≼_, ≼-⊕, whole-≼}
 use Rattle.annuity.specs.Basis.{Basis, Fair}

@@ -2,44 +2,44 @@
 -- how far it lies from its exact fraction.
 use mathlib.Core.Path.{_≡_}
 use mathlib.Core.Bool.{Bool, true, false, cond}
-use Prim.Native.Nat.{ℕ, _+_, _-_, _*_, _≤_}
+use Prim.Native.Nat.{_+_, _-_, _*_, _≤_}
 use native.Mathlib.Omega.{arith}
 use lib.Dec.{eqb}
 use borrow.Author.Tests.{eq-eqb, ne-eqb}
-use Rattle.fractions.specs.Ratio.{Ratio, _over_, whole, _⊕_, _⊝_, _⊗_, Proper, _≈_, _≼_}
+use Rattle.fractions.specs.Ratio.{_over_, whole, _⊕_, _⊗_, Proper, _≈_, _≼_}
 use Rattle.fractions.proofs.RatioLaws.{over-proper, whole-proper, ⊝-proper, ⊗-proper}
 use Rattle.fractions.proofs.OrderLaws.{_∙≼_, ⊝-≼}
 use Rattle.fractions.proofs.EqualLaws.{⊝-⊕}
 use Rattle.annuity.specs.Basis.{Basis, Fair}
-use Rattle.annuity.specs.Factors.{S, monthly, monthly*, A, A*, pension, pension*}
+use Rattle.annuity.specs.Factors.{S, monthlyLess, monthlyLess*, A, A*, pension, pension*}
 use Rattle.annuity.proofs.Distance.{Halves, halves-more, halves-less}
 use Rattle.annuity.proofs.Life.{A*-proper, A-least, A*-least, A-most, A*-most, A-halves}
 
 -- ---- 11/24
-monthly-proper : Proper monthly*
+monthly-proper : Proper monthlyLess*
 monthly-proper = ⊗-proper (over-proper _ (omega arith)) (whole-proper S)
 
-monthly-halves : Halves 1 monthly monthly*
+monthly-halves : Halves 1 monthlyLess monthlyLess*
 unfolding _over_ whole _⊗_
 monthly-halves = omega arith
 
-monthly-below-one : monthly* ≼ whole S
+monthly-below-one : monthlyLess* ≼ whole S
 unfolding _over_ whole _⊗_
 monthly-below-one = omega arith
 
 -- what holds of an annuity paid either way, and of two that are paid in the same way
-each-way : {X : Type 0} (P : X → Type 0) (monthly : Bool) {x y : X} → P x → P y → P (cond monthly x y)
+each-way : {X : Type 0} (P : X → Type 0) (by-month : Bool) {x y : X} → P x → P y → P (cond by-month x y)
 each-way P true h g = h
 each-way P false h g = g
 
-both-ways : {X Y : Type 0} (P : X → Y → Type 0) (monthly : Bool) {x y : X} {x* y* : Y} → P x x* → P y y* → P (cond monthly x y) (cond monthly x* y*)
+both-ways : {X Y : Type 0} (P : X → Y → Type 0) (by-month : Bool) {x y : X} {x* y* : Y} → P x x* → P y y* → P (cond by-month x y) (cond by-month x* y*)
 both-ways P true h g = h
 both-ways P false h g = g
 
 module _ (b : Basis) where
   open Basis b using (r, pay)
 
-  monthly-in-it : monthly* ≼ A* b r
+  monthly-in-it : monthlyLess* ≼ A* b r
   monthly-in-it = monthly-below-one ∙≼ A*-least b r
 
   not-monthly : pay ≡ 1 → eqb pay 12 ≡ false

@@ -1,5 +1,6 @@
 -- The factors of RULES section 8, in billionths, each rounded and, by rule 10.1, exact, side by side.
--- The rules' own equations, A(120) = S and so on, are the lemmas of proofs/Equations.antt.
+-- The rules' own equations, A(120) = S and so on, are the lemmas of proofs/Equations.antt, and for where G begins those of
+-- proofs/PensionLaws.antt.
 use mathlib.Core.Path.{_≡_, refl}
 use mathlib.Core.Bool.{true, cond}
 use mathlib.Core.List.{[], _∷_}
@@ -16,11 +17,11 @@ abbrev pub S : ℕ
 S = 1000000000
 
 -- rule 8.5, 11/24, which payment by the month takes off: as it is taken, in whole billionths, and exact
-abbrev pub monthly : ℕ
-monthly = 458333333
+abbrev pub monthlyLess : ℕ
+monthlyLess = 458333333
 
-abbrev pub monthly* : Ratio
-monthly* = 11 over 24 ⊗ whole S
+abbrev pub monthlyLess* : Ratio
+monthlyLess* = 11 over 24 ⊗ whole S
 
 module _ (b : Basis) where
   open Basis b using (i, r, pay, P, W)
@@ -41,10 +42,10 @@ module _ (b : Basis) where
 
   -- rule 8.5, the annuity that a pension is worth at retirement, where G begins: A(r), and 11/24 less where it is paid by the month
   unfoldable pub pension : ℕ
-  pension = cond (eqb pay 12) (A r - monthly) (A r)
+  pension = cond (eqb pay 12) (A r - monthlyLess) (A r)
 
   unfoldable pub pension* : Ratio
-  pension* = cond (eqb pay 12) (A* r ⊝ monthly*) (A* r)
+  pension* = cond (eqb pay 12) (A* r ⊝ monthlyLess*) (A* r)
 
   -- rule 8.5, the deferred annuity G: a pension's annuity at r, and below r the step alone
   unfoldable pub G : ℕ → ℕ
@@ -78,11 +79,19 @@ C i m = T (certain i) 0 m
 unfoldable pub C* : ℕ → ℕ → Ratio
 C* i m = T* (certain i) 0 m
 
--- ---- rule 8.5, worked where nobody dies before 120, at no interest: at 119 there are two payments to come. It stands here so that a wrong
--- definition is refused by it
-abbrev two-payments : ℕ → Basis
-two-payments pay = record { i = 0; r = 119; pay = pay; P = λ k. 1000000; W = λ k. 1000 }
+-- ---- rules 8.5 and 10.1, worked where nobody dies before 120, at no interest: at 118 there are three payments to come. They stand here, so
+-- that a wrong definition is refused by them: 11/24 comes off once, and exactly it comes off S
+abbrev three-payments : ℕ → Basis
+three-payments pay = record { i = 0; r = 118; pay = pay; P = λ k. 1000000; W = λ k. 1000 }
 
-pub pensions-are : all-are ((pension (two-payments 1) is 2000000000) ∷ (pension (two-payments 12) is 1541666667) ∷ []) ≡ true
-unfolding carried nearest step A pension
+abbrev exact-three : Ratio
+exact-three = pension* (three-payments 12)
+
+pub pensions-are : all-are
+    ((pension (three-payments 1) is 3000000000)
+    ∷ (pension (three-payments 12) is 2541666667)
+    ∷ (24 * exact-three .upper is 61 * S * exact-three .lower)
+    ∷ [])
+    ≡ true
+unfolding _over_ whole _⊕_ _⊝_ _⊗_ carried nearest step step* A A* pension pension*
 pensions-are = refl

@@ -29,8 +29,8 @@ short-basis = basis short 65 1000
 abbrev crowded-basis : (r : ℕ) → Basis
 crowded-basis r = basis (shortWith crowded) r 1000
 
--- after the rates: rule 14.19, the annuity at 64 before retirement and at it; rule 14.3, G at 64 and 63, and T(63,65); rule 14.22, G of
--- pensions paid by the month
+-- after the rates: rule 14.19, the annuity at 64 before retirement and at it; rule 14.3, G at 64 and 63, and T(63,65); rule 14.22, A
+-- and G of pensions paid by the month
 unfoldable pub factors : List Figure
 factors =
     rates
@@ -39,6 +39,7 @@ factors =
     ∷ (G short-basis 64 is 909090909)
     ∷ (G short-basis 63 is 826446281)
     ∷ (T short-basis 63 65 is 1909090909)
+    ∷ (A (payable 12 short-basis) 65 is 1000000000)
     ∷ (G (payable 12 short-basis) 65 is 541666667)
     ∷ (G (payable 12 short-basis) 64 is 492424243)
     ∷ (G (payable 12 short-basis) 63 is 447658403)

@@ -91,7 +91,7 @@ fn life_of(rows: &Rows, r: usize, i: u64) -> Factors
 }
 
 // Rule 8.5: 11/24, which payment by the month takes off, in billionths.
-const MONTHLY: u64 = 458_333_333;
+const MONTHLY_LESS: u64 = 458_333_333;
 
 // Rule 8.5, the annuity that a pension is worth at retirement: A(r), and less where it is paid by the month.
 fn pension(rows: &Rows, r: usize, pay: u64, i: u64) -> u64
@@ -101,7 +101,7 @@ fn pension(rows: &Rows, r: usize, pay: u64, i: u64) -> u64
     let life = life_of(rows, r, i);
     let yearly = life[r - FIRST_AGE];
     if pay == 12 {
-        return yearly - MONTHLY;
+        return yearly - MONTHLY_LESS;
     }
     yearly
 }

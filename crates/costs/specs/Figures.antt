@@ -24,7 +24,7 @@ use Rattle.costs.specs.Setting.{Setting}
 use Rattle.costs.specs.Costs.{W, PV, cost, N, L}
 use Rattle.costs.specs.Valuation.{settingOf}
 
--- rules 14.2 and 14.22: the plan of the short case, its pensions paid so many times a year
+-- rules 14.2, 14.22 and 14.23: the plan of the short case, its pensions paid so many times a year
 abbrev short-paid : ℕ → Plan
 short-paid pay =
     record { interest = 1000; retire = 65; pay = pay; formula = 1; unit = 10000; average = 0; method = 4; assets = 2000; years = 2 }
@@ -96,6 +96,9 @@ member-figures =
     ∷ (L monthly-setting CD 64 is 5158)
     ∷ (N monthly-setting CP 64 is 4924)
     ∷ (L monthly-setting CP 64 is 4924)
+    ∷ (N monthly-setting CP 63 is 4476)
+    ∷ (L monthly-setting CP 63 is 0)
+    ∷ (10 * (PV monthly-setting 63 * W monthly-setting 63 * S) is 44765 * Z (monthly-setting .basis) 63 65)
     ∷ (planRefusal (short-paid 12) short is 0)
     ∷ (planRefusal (short-paid 2) short is 11)
     ∷ (benefit 2 0 65 is 38182)

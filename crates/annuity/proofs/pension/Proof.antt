@@ -6,7 +6,7 @@ use lib.ListN.{getD}
 use borrow.Author.Needs.{needs}
 use borrow.Author.Tests.{eq-eqb, ne-eqb}
 use Rattle.annuity.specs.Basis.{basis, payable}
-use Rattle.annuity.specs.Factors.{monthly, A, pension}
+use Rattle.annuity.specs.Factors.{monthlyLess, A, pension}
 use Rattle.annuity.proofs.Bases.{A-payable}
 use Rattle.annuity.proofs.Life.{A-least}
 use Rattle.annuity.proofs.pension.Statement.{statement}
@@ -27,7 +27,7 @@ sub-result c =
 
 returns : tie.Need-returns
 unfolding pension
-returns c = simp (eq-eqb (c .before .before .args .pay) 12 (omega arith)) (ap (λ (f : ℕ). f - monthly) (yearly (c .before)))
+returns c = simp (eq-eqb (c .before .before .args .pay) 12 (omega arith)) (ap (λ (f : ℕ). f - monthlyLess) (yearly (c .before)))
 
 returns-2 : tie.Need-returns-2
 unfolding pension
