@@ -82,7 +82,8 @@ uint64_t kuyeshan_refusal_line(uint64_t number, uint64_t line, uint8_t *out, siz
  *   member    id, entry age, age, salary in cents a year
  *   figures   in whole cents, halfway to the even cent (rule 6.1): the yearly benefit, its present value, the
  *             normal cost, the liability
- * 0, or the first refusal, from 10 on, which leaves `figures` as they were. */
+ * 0, or the first refusal, from 10 on, which leaves `figures` as they were. A program that was written before `plan` had pay,
+ * with eight numbers, must be changed and built again: the function's name is the same. */
 uint64_t kuyeshan_value_member(const uint64_t plan[9], const uint32_t rows[424], const uint64_t member[4],
                                uint64_t figures[4]);
 

@@ -26,8 +26,8 @@ use Rattle.costs.specs.Valuation.{settingOf}
 
 -- rules 14.2, 14.22 and 14.23: the plan of the short case, its pensions paid so many times a year
 abbrev short-paid : ℕ → Plan
-short-paid pay =
-    record { interest = 1000; retire = 65; pay = pay; formula = 1; unit = 10000; average = 0; method = 4; assets = 2000; years = 2 }
+short-paid times =
+    record { interest = 1000; retire = 65; pay = times; formula = 1; unit = 10000; average = 0; method = 4; assets = 2000; years = 2 }
 
 -- rule 14.2: the plan and the member of the short case
 abbrev pub short-plan : Plan

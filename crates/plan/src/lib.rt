@@ -24,6 +24,7 @@ pub enum Method {
 pub struct Plan {
     pub interest: u64,
     pub retire: u64,
+    // Rule 2.10: how many times a year a pension is paid. What a member earns is its salary.
     pub pay: u64,
     pub formula: u64,
     pub unit: u64,

@@ -36,9 +36,9 @@ pub tails-are : Tails
 unfolding hasOf uptoOf pastOf digitsOf wholeOf amountOf valuesOf keyedOf tailOf
 tails-are = record { member = refl; tail = refl; surplus = refl; end = refl; end-form = refl }
 
--- ---- rules 14.1 and 14.2, the short table with its plan, and the lines that follow
-abbrev shortFile : String → List ℕ
-shortFile rest = bytes "interest=1000\nretire=65\npay=1\nformula=flat\nunit=10000\naverage=0\nmethod=CD\nassets=20.00\nyears=2\nrow=15,0,0,0,1000\nrow=16,0,0,0,1000\nrow=17,0,0,0,1000\nrow=18,0,0,0,1000\nrow=19,0,0,0,1000\nrow=20,0,0,0,1000\nrow=21,0,0,0,1000\nrow=22,0,0,0,1000\nrow=23,0,0,0,1000\nrow=24,0,0,0,1000\nrow=25,0,0,0,1000\nrow=26,0,0,0,1000\nrow=27,0,0,0,1000\nrow=28,0,0,0,1000\nrow=29,0,0,0,1000\nrow=30,0,0,0,1000\nrow=31,0,0,0,1000\nrow=32,0,0,0,1000\nrow=33,0,0,0,1000\nrow=34,0,0,0,1000\nrow=35,0,0,0,1000\nrow=36,0,0,0,1000\nrow=37,0,0,0,1000\nrow=38,0,0,0,1000\nrow=39,0,0,0,1000\nrow=40,0,0,0,1000\nrow=41,0,0,0,1000\nrow=42,0,0,0,1000\nrow=43,0,0,0,1000\nrow=44,0,0,0,1000\nrow=45,0,0,0,1000\nrow=46,0,0,0,1000\nrow=47,0,0,0,1000\nrow=48,0,0,0,1000\nrow=49,0,0,0,1000\nrow=50,0,0,0,1000\nrow=51,0,0,0,1000\nrow=52,0,0,0,1000\nrow=53,0,0,0,1000\nrow=54,0,0,0,1000\nrow=55,0,0,0,1000\nrow=56,0,0,0,1000\nrow=57,0,0,0,1000\nrow=58,0,0,0,1000\nrow=59,0,0,0,1000\nrow=60,0,0,0,1000\nrow=61,0,0,0,1000\nrow=62,0,0,0,1000\nrow=63,0,0,0,1000\nrow=64,0,0,0,1100\nrow=65,1000000,0,0,1100\nrow=66,1000000,0,0,1100\nrow=67,1000000,0,0,1100\nrow=68,1000000,0,0,1100\nrow=69,1000000,0,0,1100\nrow=70,1000000,0,0,1100\nrow=71,1000000,0,0,1100\nrow=72,1000000,0,0,1100\nrow=73,1000000,0,0,1100\nrow=74,1000000,0,0,1100\nrow=75,1000000,0,0,1100\nrow=76,1000000,0,0,1100\nrow=77,1000000,0,0,1100\nrow=78,1000000,0,0,1100\nrow=79,1000000,0,0,1100\nrow=80,1000000,0,0,1100\nrow=81,1000000,0,0,1100\nrow=82,1000000,0,0,1100\nrow=83,1000000,0,0,1100\nrow=84,1000000,0,0,1100\nrow=85,1000000,0,0,1100\nrow=86,1000000,0,0,1100\nrow=87,1000000,0,0,1100\nrow=88,1000000,0,0,1100\nrow=89,1000000,0,0,1100\nrow=90,1000000,0,0,1100\nrow=91,1000000,0,0,1100\nrow=92,1000000,0,0,1100\nrow=93,1000000,0,0,1100\nrow=94,1000000,0,0,1100\nrow=95,1000000,0,0,1100\nrow=96,1000000,0,0,1100\nrow=97,1000000,0,0,1100\nrow=98,1000000,0,0,1100\nrow=99,1000000,0,0,1100\nrow=100,1000000,0,0,1100\nrow=101,1000000,0,0,1100\nrow=102,1000000,0,0,1100\nrow=103,1000000,0,0,1100\nrow=104,1000000,0,0,1100\nrow=105,1000000,0,0,1100\nrow=106,1000000,0,0,1100\nrow=107,1000000,0,0,1100\nrow=108,1000000,0,0,1100\nrow=109,1000000,0,0,1100\nrow=110,1000000,0,0,1100\nrow=111,1000000,0,0,1100\nrow=112,1000000,0,0,1100\nrow=113,1000000,0,0,1100\nrow=114,1000000,0,0,1100\nrow=115,1000000,0,0,1100\nrow=116,1000000,0,0,1100\nrow=117,1000000,0,0,1100\nrow=118,1000000,0,0,1100\nrow=119,1000000,0,0,1100\nrow=120,1000000,0,0,1100\n" ++ bytes rest
+-- ---- rules 14.1 and 14.2, the short table with its plan, a third line, and the lines that follow
+abbrev shortFile : (pay rest : String) → List ℕ
+shortFile pay rest = bytes "interest=1000\nretire=65\n" ++ bytes pay ++ bytes "\nformula=flat\nunit=10000\naverage=0\nmethod=CD\nassets=20.00\nyears=2\nrow=15,0,0,0,1000\nrow=16,0,0,0,1000\nrow=17,0,0,0,1000\nrow=18,0,0,0,1000\nrow=19,0,0,0,1000\nrow=20,0,0,0,1000\nrow=21,0,0,0,1000\nrow=22,0,0,0,1000\nrow=23,0,0,0,1000\nrow=24,0,0,0,1000\nrow=25,0,0,0,1000\nrow=26,0,0,0,1000\nrow=27,0,0,0,1000\nrow=28,0,0,0,1000\nrow=29,0,0,0,1000\nrow=30,0,0,0,1000\nrow=31,0,0,0,1000\nrow=32,0,0,0,1000\nrow=33,0,0,0,1000\nrow=34,0,0,0,1000\nrow=35,0,0,0,1000\nrow=36,0,0,0,1000\nrow=37,0,0,0,1000\nrow=38,0,0,0,1000\nrow=39,0,0,0,1000\nrow=40,0,0,0,1000\nrow=41,0,0,0,1000\nrow=42,0,0,0,1000\nrow=43,0,0,0,1000\nrow=44,0,0,0,1000\nrow=45,0,0,0,1000\nrow=46,0,0,0,1000\nrow=47,0,0,0,1000\nrow=48,0,0,0,1000\nrow=49,0,0,0,1000\nrow=50,0,0,0,1000\nrow=51,0,0,0,1000\nrow=52,0,0,0,1000\nrow=53,0,0,0,1000\nrow=54,0,0,0,1000\nrow=55,0,0,0,1000\nrow=56,0,0,0,1000\nrow=57,0,0,0,1000\nrow=58,0,0,0,1000\nrow=59,0,0,0,1000\nrow=60,0,0,0,1000\nrow=61,0,0,0,1000\nrow=62,0,0,0,1000\nrow=63,0,0,0,1000\nrow=64,0,0,0,1100\nrow=65,1000000,0,0,1100\nrow=66,1000000,0,0,1100\nrow=67,1000000,0,0,1100\nrow=68,1000000,0,0,1100\nrow=69,1000000,0,0,1100\nrow=70,1000000,0,0,1100\nrow=71,1000000,0,0,1100\nrow=72,1000000,0,0,1100\nrow=73,1000000,0,0,1100\nrow=74,1000000,0,0,1100\nrow=75,1000000,0,0,1100\nrow=76,1000000,0,0,1100\nrow=77,1000000,0,0,1100\nrow=78,1000000,0,0,1100\nrow=79,1000000,0,0,1100\nrow=80,1000000,0,0,1100\nrow=81,1000000,0,0,1100\nrow=82,1000000,0,0,1100\nrow=83,1000000,0,0,1100\nrow=84,1000000,0,0,1100\nrow=85,1000000,0,0,1100\nrow=86,1000000,0,0,1100\nrow=87,1000000,0,0,1100\nrow=88,1000000,0,0,1100\nrow=89,1000000,0,0,1100\nrow=90,1000000,0,0,1100\nrow=91,1000000,0,0,1100\nrow=92,1000000,0,0,1100\nrow=93,1000000,0,0,1100\nrow=94,1000000,0,0,1100\nrow=95,1000000,0,0,1100\nrow=96,1000000,0,0,1100\nrow=97,1000000,0,0,1100\nrow=98,1000000,0,0,1100\nrow=99,1000000,0,0,1100\nrow=100,1000000,0,0,1100\nrow=101,1000000,0,0,1100\nrow=102,1000000,0,0,1100\nrow=103,1000000,0,0,1100\nrow=104,1000000,0,0,1100\nrow=105,1000000,0,0,1100\nrow=106,1000000,0,0,1100\nrow=107,1000000,0,0,1100\nrow=108,1000000,0,0,1100\nrow=109,1000000,0,0,1100\nrow=110,1000000,0,0,1100\nrow=111,1000000,0,0,1100\nrow=112,1000000,0,0,1100\nrow=113,1000000,0,0,1100\nrow=114,1000000,0,0,1100\nrow=115,1000000,0,0,1100\nrow=116,1000000,0,0,1100\nrow=117,1000000,0,0,1100\nrow=118,1000000,0,0,1100\nrow=119,1000000,0,0,1100\nrow=120,1000000,0,0,1100\n" ++ bytes rest
 
 -- what a file holds, by its plan and the count of its members; or its refusal
 pub data Answer : Type 0 where
@@ -49,23 +49,27 @@ abbrev answer : Outcome Case → Answer
 answer (values c) = holds (c .plan) (length (c .members))
 answer (refusal number line) = refused number line
 
-abbrev shortPlan : Plan
-shortPlan =
-    record { interest = 1000; retire = 65; pay = 1; formula = 1; unit = 10000; average = 0; method = 4; assets = 2000; years = 2 }
+abbrev shortPlan : ℕ → Plan
+shortPlan times =
+    record { interest = 1000; retire = 65; pay = times; formula = 1; unit = 10000; average = 0; method = 4; assets = 2000; years = 2 }
 
 -- reading, for its form
 pub record Readings : Type 0 where
   -- rule 14.15: no bytes
   pub empty : walkOf false (bytes "") ≡ refusal 2 1
   -- rule 14.2
-  pub worked : answer (walkOf false (shortFile "member=7,63,64,0.00\nend=1\n")) ≡ holds shortPlan 1
+  pub worked : answer (walkOf false (shortFile "pay=1" "member=7,63,64,0.00\nend=1\n")) ≡ holds (shortPlan 1) 1
   -- rule 14.16: no members
-  pub alone : answer (walkOf false (shortFile "end=0\n")) ≡ holds shortPlan 0
-  pub wrong-count : walkOf false (shortFile "end=1\n") ≡ refusal 4 116
-  pub bytes-after : walkOf false (shortFile "end=0\n0") ≡ refusal 3 117
-  pub cut-off : walkOf false (shortFile "end=0") ≡ refusal 2 116
+  pub alone : answer (walkOf false (shortFile "pay=1" "end=0\n")) ≡ holds (shortPlan 1) 0
+  pub wrong-count : walkOf false (shortFile "pay=1" "end=1\n") ≡ refusal 4 116
+  pub bytes-after : walkOf false (shortFile "pay=1" "end=0\n0") ≡ refusal 3 117
+  pub cut-off : walkOf false (shortFile "pay=1" "end=0") ≡ refusal 2 116
   -- rule 14.14
-  pub tail : walkOf false (shortFile "member=7,63,64,4125.50.75\nend=1\n") ≡ refusal 20 116
+  pub tail : walkOf false (shortFile "pay=1" "member=7,63,64,4125.50.75\nend=1\n") ≡ refusal 20 116
+  -- rule 14.23: its form alone is read, and another line isn't taken for it
+  pub half-years : answer (walkOf false (shortFile "pay=2" "end=0\n")) ≡ holds (shortPlan 2) 0
+  pub no-pay : walkOf false (bytes "interest=1000\nretire=65\nformula=flat\n") ≡ refusal 10 3
+  pub pay-form : walkOf false (bytes "interest=1000\nretire=65\npay=012\n") ≡ refusal 10 3
 
 pub readings-are : Readings
 unfolding hasOf uptoOf pastOf sameOf digitsOf wholeOf amountOf valuesOf keyedOf formulaWord methodWord termForms rowForm tailOf verdictOf step linesOf restOf folded walkFrom walkOf
@@ -78,17 +82,26 @@ readings-are =
       bytes-after = refl;
       cut-off = refl;
       tail = refl;
+      half-years = refl;
+      no-pay = refl;
+      pay-form = refl;
     }
 
 -- accepting, for its ranges too
 pub record Acceptances : Type 0 where
   -- rule 14.2
-  pub worked : answer (walkOf true (shortFile "member=7,63,64,0.00\nend=1\n")) ≡ holds shortPlan 1
+  pub worked : answer (walkOf true (shortFile "pay=1" "member=7,63,64,0.00\nend=1\n")) ≡ holds (shortPlan 1) 1
   -- rule 14.16
-  pub alone : answer (walkOf true (shortFile "end=0\n")) ≡ holds shortPlan 0
+  pub alone : answer (walkOf true (shortFile "pay=1" "end=0\n")) ≡ holds (shortPlan 1) 0
+  -- rule 14.22: paid by the month
+  pub monthly : answer (walkOf true (shortFile "pay=12" "end=0\n")) ≡ holds (shortPlan 12) 0
+  -- rule 14.23, and after a wrong line before it
+  pub half-years : walkOf true (bytes "interest=1000\nretire=65\npay=2\n") ≡ refusal 11 3
+  pub after-retire : walkOf true (bytes "interest=1000\nretire=49\npay=2\n") ≡ refusal 11 2
   -- rule 12.4: an age past retirement comes before a cut in the line after it
-  pub range-before-cut : walkOf true (shortFile "member=7,63,66,0.00\nx") ≡ refusal 23 116
+  pub range-before-cut : walkOf true (shortFile "pay=1" "member=7,63,66,0.00\nx") ≡ refusal 23 116
 
 pub acceptances-are : Acceptances
 unfolding hasOf uptoOf pastOf sameOf digitsOf wholeOf amountOf valuesOf keyedOf formulaWord methodWord termForms rowForm tailOf verdictOf step linesOf restOf folded walkFrom walkOf rowRules fieldRules benefitRules memberRefusal nearest _over_ whole exactBenefit B formulaOf
-acceptances-are = record { worked = refl; alone = refl; range-before-cut = refl }
+acceptances-are =
+    record { worked = refl; alone = refl; monthly = refl; half-years = refl; after-retire = refl; range-before-cut = refl }
