@@ -12,11 +12,11 @@ use Rattle.annuity.specs.declared.Amount.the-variants.{Nothing, One, Wei
 use Rattle.rounding.specs.Nearest.{nearest}
 use Rattle.rates.specs.Rates.{stays}
 use Rattle.rates.specs.Table.{staying}
-use Rattle.annuity.specs.Basis.{Basis, Fair, basis, payable}
-use Rattle.annuity.specs.Factors.{S, step, pension, G}
+use Rattle.factors.specs.Basis.{Basis, Fair, basis, payable}
+use Rattle.factors.specs.Factors.{S, step, pension, G}
 use Rattle.annuity.specs.Filled.{Filled, paidOf, factor}
-use Rattle.annuity.proofs.Carried.{carried-at, carried-before, carried-cong}
-use Rattle.annuity.proofs.Annuities.{annuity-most}
+use Rattle.factors.proofs.Carried.{carried-at, carried-before, carried-cong}
+use Rattle.factors.proofs.Annuities.{annuity-most}
 
 -- ---- the array
 -- one store more, at the age before

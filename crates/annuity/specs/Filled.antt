@@ -6,9 +6,9 @@ use lib.ListN.{length, getD}
 use Rattle.rates.specs.Table.{firstAge, ages}
 use Rattle.annuity.specs.declared.Amount.{Amount}
 use Rattle.annuity.specs.declared.Amount.the-variants.{Nothing, One, Weight}
-use Rattle.annuity.specs.Recursion.{carried}
-use Rattle.annuity.specs.Basis.{Basis}
-use Rattle.annuity.specs.Factors.{S, step}
+use Rattle.factors.specs.Recursion.{carried}
+use Rattle.factors.specs.Basis.{Basis}
+use Rattle.factors.specs.Factors.{S, step}
 
 -- the place of each age from `low` on holds its factor F(k), up to the age `top`; above that it holds 0
 pub record Filled (F : ℕ → ℕ) (top low : ℕ) (a : List ℕ) : Type 0 where

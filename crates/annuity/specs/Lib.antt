@@ -1,6 +1,1 @@
-pub mod Recursion
-pub mod Basis
-pub mod Factors
-pub mod Accuracy
 pub mod Filled
-pub mod Figures

@@ -1,7 +1,7 @@
-// The annuity factors, RULES section 8: the year step, and A, G, T, Z and C in billionths.
-// The crate `rates` has the table, and staying by its rows; specs/Factors.antt the factors, rounded and exact, in the
-// rules' letters; specs/Accuracy.antt how far apart the two lie. Here they are worked: the rows go by value to the functions
-// of A, G, T and Z, and by reference to the one fill, downward from the last age, that serves them all and the crate columns.
+// The annuity factors, RULES section 8, worked: the year step, and A, G, T, Z and C in billionths.
+// The crate `rates` has the table, and staying by its rows; the crate `factors` the factors, rounded and exact, in the
+// rules' letters, and how far apart the two lie. Here they are worked: the rows go by value to the functions of A, G, T
+// and Z, and by reference to the one fill, downward from the last age, that serves them all and the crate columns.
 // An array has a place for each of the 106 ages; age k stands at place k - 15. Each `requires` is what an accepted plan shows.
 use rates::AGES;
 use rates::FIRST_AGE;
@@ -12,9 +12,9 @@ ghost use lib.ListN.{getD};
 ghost use Rattle.rounding.specs.Nearest.{nearest};
 ghost use Rattle.rates.specs.Rates.{stays};
 ghost use Rattle.rates.specs.Table.{Sound, Table, firstAge, ages};
-ghost use Rattle.annuity.specs.Basis.{basis, payable};
-ghost use Rattle.annuity.specs.Factors.{A as Factors·A, pension as Factors·pension, G, T, Z, C};
-ghost use Rattle.annuity.specs.Factors.{S as Factors·S};
+ghost use Rattle.factors.specs.Basis.{basis, payable};
+ghost use Rattle.factors.specs.Factors.{A as Factors·A, pension as Factors·pension, G, T, Z, C};
+ghost use Rattle.factors.specs.Factors.{S as Factors·S};
 ghost use Rattle.annuity.specs.Filled.{Filled, paidOf, factor};
 
 // Rule 8.1: one, in billionths.

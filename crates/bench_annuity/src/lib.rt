@@ -10,8 +10,8 @@ ghost use mathlib.Core.Path.{_≡_};
 ghost use Prim.Native.Nat.{_+_, _≤_};
 ghost use lib.ListN.{length};
 ghost use Rattle.rates.specs.Table.{Sound, Table};
-ghost use Rattle.annuity.specs.Basis.{basis};
-ghost use Rattle.annuity.specs.Factors.{A as Factors·A, Z};
+ghost use Rattle.factors.specs.Basis.{basis};
+ghost use Rattle.factors.specs.Factors.{A as Factors·A, Z};
 ghost use Rattle.annuity.specs.Filled.{Filled};
 ghost use Rattle.bench_annuity.specs.Rows.{rowAt, rowsOf};
 

@@ -11,8 +11,8 @@ ghost use mathlib.Core.Path.{_≡_};
 ghost use Prim.Native.Nat.{_-_, _≤_};
 ghost use lib.ListN.{getD};
 ghost use Rattle.rates.specs.Table.{Table, firstAge};
-ghost use Rattle.annuity.specs.Basis.{basis};
-ghost use Rattle.annuity.specs.Factors.{T, Z};
+ghost use Rattle.factors.specs.Basis.{basis};
+ghost use Rattle.factors.specs.Factors.{T, Z};
 ghost use Rattle.annuity.specs.Filled.{factor};
 ghost use Rattle.columns.specs.Columns.{lastEnd, column, Marked, FilledColumns, ColumnsKept};
 

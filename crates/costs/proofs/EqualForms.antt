@@ -8,9 +8,9 @@ use Rattle.fractions.specs.Ratio.{_over_, _⊕_, _⊗_, Proper, _≈_}
 use Rattle.fractions.proofs.RatioLaws.{⊕-assoc, ⊕-zero, ⊗-one, whole-proper, over-proper, ⊕-proper, ⊗-proper, AC}
 use Rattle.fractions.proofs.EqualLaws.{≈-refl, ≈-of, ≈-sym, _∙≈_, ⊕-cong, ⊗-cong, zero-⊗, ⊕-⊗}
 use Rattle.fractions.proofs.FractionLaws.{≐-less}
-use Rattle.annuity.specs.Factors.{step*, v}
-use Rattle.annuity.proofs.Equations.{v-at, v-below}
-use Rattle.annuity.proofs.Sizes.{v-proper}
+use Rattle.factors.specs.Factors.{step*, v}
+use Rattle.factors.proofs.Equations.{v-at, v-below}
+use Rattle.factors.proofs.Sizes.{v-proper}
 use Rattle.plan.specs.declared.Method.{Method}
 use Rattle.costs.specs.Setting.{Setting, SoundSetting}
 use Rattle.costs.specs.Costs.{r, PV*, N*, L*, costs-from, future}

@@ -10,10 +10,10 @@ use Rattle.fractions.specs.Ratio.{Ratio, _over_, whole, _⊕_, _⊗_, inverse, 
 use Rattle.fractions.proofs.RatioLaws.{⊗-comm, ⊗-one, whole-proper, over-proper, whole-positive, inverse-proper, proper}
 use Rattle.fractions.proofs.OrderLaws.{_∙≼_, ≼-refl, ⊕-mono, ⊗-mono, whole-≼, over-≼}
 use Rattle.fractions.proofs.ApartLaws.{apart-more}
-use Rattle.annuity.specs.Factors.{S, G, G*, T, T*, Z, Z*}
-use Rattle.annuity.specs.Accuracy.{Within}
-use Rattle.annuity.proofs.Sizes.{G*-most, T-least, T-longer, T*-proper, T*-positive, T*-longer, Z-least, Z-longer, Z*-proper, Z*-positive, Z*-longer}
-use Rattle.annuity.proofs.Accuracy.{G-accuracy, T-accuracy, Z-accuracy}
+use Rattle.factors.specs.Factors.{S, G, G*, T, T*, Z, Z*}
+use Rattle.factors.specs.Accuracy.{Within}
+use Rattle.factors.proofs.Sizes.{G*-most, T-least, T-longer, T*-proper, T*-positive, T*-longer, Z-least, Z-longer, Z*-proper, Z*-positive, Z*-longer}
+use Rattle.factors.proofs.Accuracy.{G-accuracy, T-accuracy, Z-accuracy}
 use Rattle.plan.specs.declared.Method.{Method}
 use Rattle.plan.specs.declared.Method.the-variants.{AB, BD, BP, CD, CP}
 use Rattle.costs.specs.Setting.{Setting, SoundSetting}

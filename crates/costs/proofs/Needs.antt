@@ -6,10 +6,10 @@ use native.Mathlib.Omega.{arith}
 use Rattle.rounding.specs.Nearest.{nearest}
 use Rattle.rounding.proofs.NearestLaws.{nearest-mono, nearest-exact}
 use Rattle.rates.specs.Table.{Table}
-use Rattle.annuity.specs.Factors.{S, G, Z}
-use Rattle.annuity.specs.Basis.{Fair}
-use Rattle.annuity.proofs.Bases.{basis-fair, payable-fair}
-use Rattle.annuity.proofs.Sizes.{G-most, Z-least}
+use Rattle.factors.specs.Factors.{S, G, Z}
+use Rattle.factors.specs.Basis.{Fair}
+use Rattle.factors.proofs.Bases.{basis-fair, payable-fair}
+use Rattle.factors.proofs.Sizes.{G-most, Z-least}
 use Rattle.plan.specs.declared.Plan.{Plan}
 use Rattle.plan.specs.declared.Member.{Member}
 use Rattle.plan.specs.Ranges.{PlanRanges, MemberRanges}

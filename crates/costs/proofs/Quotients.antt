@@ -11,7 +11,7 @@ use Rattle.fractions.proofs.EqualLaws.{cancel}
 use Rattle.fractions.proofs.OrderLaws.{≼-refl, ≼-of, ≼-⊕, _∙≼_, ⊗-mono}
 use Rattle.fractions.proofs.FractionLaws.{fraction-⊙}
 use Rattle.fractions.proofs.ApartLaws.{apart-of, apart-sym, apart-more, apart-⊙, apart-trans, apart-≈}
-use Rattle.annuity.proofs.Distance.{halves-apart}
+use Rattle.factors.proofs.Distance.{halves-apart}
 
 -- two ratios differ, either way, by the limit at most
 abbrev pub Close : (limit a b : Ratio) → Type 0

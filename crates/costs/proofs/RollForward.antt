@@ -9,10 +9,10 @@ use lib.Dec.{T as Yes, ltb, lt→ltb}
 use Rattle.fractions.specs.Ratio.{Ratio, whole, _⊕_, _⊗_, _⊘_, Proper, Positive, _≈_}
 use Rattle.fractions.proofs.RatioLaws.{⊗-assoc, one-⊗, whole-⊕, whole-proper, ⊗-proper, whole-positive, AC, proper}
 use Rattle.fractions.proofs.EqualLaws.{≈-refl, ≈-of, ≈-sym, _∙≈_, ⊕-cong, ⊗-cong, ⊕-⊗, cancel}
-use Rattle.annuity.specs.Factors.{S, step*, G*, T*, Z*, v}
-use Rattle.annuity.proofs.Equations.{G*-below}
-use Rattle.annuity.proofs.Chains.{G*-chain, T*-chain, Z*-chain}
-use Rattle.annuity.proofs.Sizes.{G*-proper, T*-proper, Z*-proper, v-proper, T*-positive, Z*-positive}
+use Rattle.factors.specs.Factors.{S, step*, G*, T*, Z*, v}
+use Rattle.factors.proofs.Equations.{G*-below}
+use Rattle.factors.proofs.Chains.{G*-chain, T*-chain, Z*-chain}
+use Rattle.factors.proofs.Sizes.{G*-proper, T*-proper, Z*-proper, v-proper, T*-positive, Z*-positive}
 use Rattle.plan.specs.declared.Method.{Method}
 use Rattle.plan.specs.declared.Method.the-variants.{AB, BD, BP, CD, CP}
 use Rattle.costs.specs.Setting.{Setting, SoundSetting}

@@ -5,7 +5,7 @@ use Prim.Native.Nat.{ℕ, zero, suc, _+_, _-_, _*_}
 use lib.Dec.{ltb}
 use Rattle.rounding.specs.Nearest.{nearest}
 use Rattle.fractions.specs.Ratio.{Ratio, whole, _⊕_, _⊗_, _⊘_}
-use Rattle.annuity.specs.Factors.{S, G, G*, T, T*, Z, Z*, v}
+use Rattle.factors.specs.Factors.{S, G, G*, T, T*, Z, Z*, v}
 use Rattle.plan.specs.Weights.{summed}
 use Rattle.plan.specs.declared.Method.{Method}
 use Rattle.plan.specs.declared.Method.the-variants.{AB, BD, BP, CD, CP}

@@ -2,8 +2,8 @@
 use Prim.Native.Nat.{ℕ, _+_, _*_, _≤_, _<_}
 use Rattle.fractions.specs.Ratio.{Ratio, _over_, whole, _⊕_, _⊗_, _≈_}
 use Rattle.fractions.specs.Fraction.{fraction, _⊖_, _≐_}
-use Rattle.annuity.specs.Factors.{S, step*}
-use Rattle.annuity.specs.Accuracy.{Within}
+use Rattle.factors.specs.Factors.{S, step*}
+use Rattle.factors.specs.Accuracy.{Within}
 use Rattle.plan.specs.declared.Method.{Method}
 use Rattle.plan.specs.declared.Method.the-variants.{AB, BD, BP, CD, CP}
 use Rattle.costs.specs.Setting.{Setting, SoundSetting}

@@ -6,11 +6,11 @@ use Prim.Native.Nat.{ℕ, _*_}
 use Rattle.rounding.specs.Nearest.{nearest}
 use Rattle.fractions.specs.Ratio.{Ratio, _over_, whole, _⊕_, _⊗_, inverse}
 use Rattle.rates.specs.ByHand.{Figure, _is_, all-are}
-use Rattle.annuity.specs.Recursion.{carried}
+use Rattle.factors.specs.Recursion.{carried}
 use Rattle.rates.specs.Rates.{able, serves, leaves, stays, crowded, rates}
 use Rattle.rates.specs.Table.{staying}
-use Rattle.annuity.specs.Factors.{S, step, A, pension, G, T, Z}
-use Rattle.annuity.specs.Figures.{short, shortWith, factors}
+use Rattle.factors.specs.Factors.{S, step, A, pension, G, T, Z}
+use Rattle.factors.specs.Figures.{short, shortWith, factors}
 use Rattle.plan.specs.declared.Plan.{Plan}
 use Rattle.plan.specs.declared.Member.{Member}
 use Rattle.plan.specs.declared.Formula.the-variants.{Final}

@@ -1,6 +1,6 @@
 -- What the figures of one member rest on, and what holds of each accepted one, by rules 2.3, 3.5, 4.3, 7.8, 7.9 and 8.2.
 use Prim.Native.Nat.{ℕ, _+_, _≤_, _<_}
-use Rattle.annuity.specs.Basis.{Basis, Fair}
+use Rattle.factors.specs.Basis.{Basis, Fair}
 
 pub record Setting : Type 0 where
   pub basis : Basis  -- interest, retirement age, how often a pension is paid, staying and weights

@@ -5,8 +5,8 @@ use mathlib.Core.List.{List}
 use Prim.Native.Nat.{ℕ, _≤_}
 use lib.Dec.{eqb}
 use Rattle.fractions.specs.Ratio.{_over_}
-use Rattle.annuity.specs.Basis.{Basis, basis, payable}
-use Rattle.annuity.specs.Accuracy.{Within}
+use Rattle.factors.specs.Basis.{Basis, basis, payable}
+use Rattle.factors.specs.Accuracy.{Within}
 use Rattle.plan.specs.declared.Plan.{Plan}
 use Rattle.plan.specs.declared.Member.{Member}
 use Rattle.plan.specs.declared.Method.{Method}

@@ -1,7 +1,7 @@
 -- What an engine hands over for a method besides G.
 use Prim.Native.Nat.{ℕ}
-use Rattle.annuity.specs.Basis.{Basis}
-use Rattle.annuity.specs.Factors.{T, Z}
+use Rattle.factors.specs.Basis.{Basis}
+use Rattle.factors.specs.Factors.{T, Z}
 use Rattle.plan.specs.declared.Method.{Method}
 use Rattle.plan.specs.declared.Method.the-variants.{AB, BD, BP, CD, CP}
 

@@ -13,7 +13,7 @@ use rates::Rows;
 ghost use mathlib.Core.Path.{_≡_};
 ghost use Prim.Native.Nat.{_-_, _≤_, _<_};
 ghost use Rattle.rates.specs.Table.{weight};
-ghost use Rattle.annuity.specs.Factors.{G};
+ghost use Rattle.factors.specs.Factors.{G};
 ghost use Rattle.annuity.specs.Filled.{Filled};
 ghost use Rattle.plan.specs.Weights.{summed};
 ghost use Rattle.plan.specs.Ranges.{MemberRanges};

@@ -10,10 +10,10 @@ use borrow.Author.Tests.{ltb-true}
 use Rattle.rounding.specs.Nearest.{nearest}
 use Rattle.rounding.proofs.NearestLaws.{nearest-below, nearest-above, nearest-exact, nearest-mono, nearest-shrinks, nearest-le}
 use Rattle.rates.specs.Table.{weight}
-use Rattle.annuity.specs.Basis.{Basis}
-use Rattle.annuity.specs.Factors.{S, step, G, T, Z}
-use Rattle.annuity.proofs.Equations.{G-below, Z-below}
-use Rattle.annuity.proofs.Sizes.{T-least, Z-least}
+use Rattle.factors.specs.Basis.{Basis}
+use Rattle.factors.specs.Factors.{S, step, G, T, Z}
+use Rattle.factors.proofs.Equations.{G-below, Z-below}
+use Rattle.factors.proofs.Sizes.{T-least, Z-least}
 use Rattle.plan.specs.declared.Plan.{Plan}
 use Rattle.plan.specs.declared.Member.{Member}
 use Rattle.plan.specs.declared.Method.{Method}

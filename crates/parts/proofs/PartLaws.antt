@@ -9,7 +9,7 @@ use lib.Dec.{ltb}
 use borrow.Author.Tests.{ltb-true}
 use Rattle.rounding.specs.Nearest.{nearest}
 use Rattle.rounding.proofs.NearestLaws.{nearest-exact}
-use Rattle.annuity.proofs.Sizes.{T-least, T-longer, Z-longer}
+use Rattle.factors.proofs.Sizes.{T-least, T-longer, Z-longer}
 use Rattle.plan.specs.declared.Plan.{Plan}
 use Rattle.plan.specs.declared.Member.{Member}
 use Rattle.plan.specs.declared.Method.{Method}

@@ -5,7 +5,7 @@ use mathlib.Core.List.{List}
 use Prim.Native.Nat.{ℕ, _+_, _-_, _*_, _≤_, _<_}
 use lib.Dec.{ltb}
 use Rattle.rounding.specs.Nearest.{nearest}
-use Rattle.annuity.specs.Factors.{S, G, T, Z}
+use Rattle.factors.specs.Factors.{S, G, T, Z}
 use Rattle.plan.specs.Weights.{summed}
 use Rattle.plan.specs.declared.Plan.{Plan}
 use Rattle.plan.specs.declared.Member.{Member}

@@ -7,7 +7,7 @@ use plan::Method;
 ghost use mathlib.Core.Path.{_≡_};
 ghost use Prim.Native.Nat.{_*_, _≤_, _<_};
 ghost use Rattle.rounding.specs.Nearest.{nearest};
-ghost use Rattle.annuity.specs.Factors.{S};
+ghost use Rattle.factors.specs.Factors.{S};
 ghost use Rattle.costs.specs.Valuation.{methodOf};
 ghost use Rattle.parts.specs.Parts.{SmallParts, valueFrom, costFactor, liabilityFactor, figuresFrom};
 

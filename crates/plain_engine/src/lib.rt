@@ -1,7 +1,7 @@
-// The plain engine: a member's figures by factors of its own. factors.rt works the annuities; the crate parts makes the parts
+// The plain engine: a member's figures by factors of its own. annuities.rt works the annuities; the crate parts makes the parts
 // of them, and of the parts the figures. `value_member` is the entry: it has no `requires`, and its contract is the figures'
 // equation and the limits on its N and L.
-mod factors;
+mod annuities;
 
 use acceptance::lone_refusal;
 use costs::Figures;
@@ -33,6 +33,6 @@ pub fn figures_of(p: Plan, rows: Rows, m: Member) -> Figures
     ensures { λ f. ⌜ f ≡ figures p rows m ⌝ }
 {
     let method = method_of(p.method);
-    let parts = factors::parts_at(p, &rows, m, method, m.age as usize);
+    let parts = annuities::parts_at(p, &rows, m, method, m.age as usize);
     figures_from(parts, method)
 }

@@ -9,7 +9,7 @@ use lib.IntN.{pos, _-ℤ_, _*ℤ_}
 use Rattle.rounding.specs.Nearest.{nearestℤ}
 use Rattle.rounding.specs.declared.Signed.{Signed}
 use Rattle.rounding.specs.Signed.{integerOf, signed}
-use Rattle.annuity.specs.Factors.{S, C}
+use Rattle.factors.specs.Factors.{S, C}
 use Rattle.plan.specs.declared.Plan.{Plan}
 use Rattle.plan.specs.declared.Member.{Member}
 use Rattle.members.specs.Array.{memberAt}

@@ -17,7 +17,7 @@ use plan::Plan;
 use rates::Rows;
 ghost use mathlib.Core.Path.{_≡_};
 ghost use Prim.Native.Nat.{_≤_};
-ghost use Rattle.annuity.specs.Factors.{G};
+ghost use Rattle.factors.specs.Factors.{G};
 ghost use Rattle.annuity.specs.Filled.{Filled};
 ghost use Rattle.columns.specs.Columns.{FilledColumns, ColumnsKept};
 ghost use Rattle.plan.specs.Ranges.{MemberRanges};

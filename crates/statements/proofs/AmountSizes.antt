@@ -10,8 +10,8 @@ use lib.ListN.{length, getD}
 use lib.IntN.{ℤ, pos, negsuc, negℤ, natAbs, _-ℤ_, _*ℤ_}
 use Rattle.rounding.specs.Nearest.{nearest, nearestℤ}
 use Rattle.rounding.proofs.NearestLaws.{nearest-shrinks}
-use Rattle.annuity.specs.Factors.{S, C}
-use Rattle.annuity.proofs.Sizes.{C-least}
+use Rattle.factors.specs.Factors.{S, C}
+use Rattle.factors.proofs.Sizes.{C-least}
 use Rattle.plan.specs.declared.Plan.{Plan}
 use Rattle.plan.specs.declared.Member.{Member}
 use Rattle.plan.specs.Ranges.{MemberRanges}

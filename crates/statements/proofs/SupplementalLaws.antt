@@ -11,9 +11,9 @@ use Rattle.fractions.specs.Fraction.{fraction, integer, _⊙_, opposite, Apart}
 use Rattle.fractions.proofs.RatioLaws.{⊗-assoc, whole-⊗, over-proper}
 use Rattle.fractions.proofs.FractionLaws.{integer-pos, fraction-⊙, opposite-integer, opposite-⊙}
 use Rattle.fractions.proofs.ApartLaws.{apart-opposite, apart-trans}
-use Rattle.annuity.specs.Factors.{S, C, C*}
-use Rattle.annuity.proofs.Sizes.{C-least, C*-positive, C*-proper}
-use Rattle.annuity.proofs.Accuracy.{C-accuracy}
+use Rattle.factors.specs.Factors.{S, C, C*}
+use Rattle.factors.proofs.Sizes.{C-least, C*-positive, C*-proper}
+use Rattle.factors.proofs.Accuracy.{C-accuracy}
 use Rattle.costs.proofs.Quotients.{Divisor, rounded, over-divisor}
 
 negative-whole : (n : ℕ) → integer (negℤ (pos n)) ≡ opposite (fraction (whole n))

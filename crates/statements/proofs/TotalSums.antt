@@ -6,7 +6,7 @@ use lib.ListN.{length, getD}
 use Rattle.fractions.specs.Ratio.{Ratio, whole}
 use Rattle.fractions.proofs.RatioLaws.{whole-⊕, whole-proper}
 use Rattle.fractions.proofs.ApartLaws.{apart-⊕}
-use Rattle.annuity.specs.Accuracy.{Within}
+use Rattle.factors.specs.Accuracy.{Within}
 use Rattle.plan.specs.declared.Plan.{Plan}
 use Rattle.plan.specs.declared.Member.{Member}
 use Rattle.costs.specs.declared.Figures.{Figures}

@@ -5,7 +5,7 @@ use Prim.Native.Nat.{ℕ, _+_, _≤_}
 use lib.ListN.{length}
 use lib.IntN.{pos, _-ℤ_, _*ℤ_}
 use Rattle.rounding.specs.Nearest.{nearestℤ}
-use Rattle.annuity.specs.Factors.{S, C}
+use Rattle.factors.specs.Factors.{S, C}
 use Rattle.plan.specs.declared.Plan.{Plan}
 use Rattle.plan.specs.declared.Member.{Member}
 use Rattle.plan.specs.declared.Method.{Method}
@@ -35,7 +35,7 @@ pub record Engine : Type 1 where
 -- the promise of either engine. `Right` is its own: what must hold of what it keeps. `begins`: of an accepted plan that holds from the
 -- beginning on; for the shared engine `fill_shared` shows it before its loop (totals/src/lib.rt). `gives`: where it holds, an accepted
 -- member has its parts, by each of the five methods and at each age of its own (rule 9.9), and it holds of what is kept after it. That is
--- the contract of both `parts_at` (plain_engine/src/factors.rt, shared_engine/src/lib.rt), as a reader can see: the plain one keeps nothing, and
+-- the contract of both `parts_at` (plain_engine/src/annuities.rt, shared_engine/src/lib.rt), as a reader can see: the plain one keeps nothing, and
 -- the shared one asks and ensures what `Shared` has, for the method that is asked for
 pub record GivesParts (e : Engine) : Type 1 where
   pub Right : Plan → (rows : List (List ℕ)) → Method → e .Kept → Type 0

@@ -6,11 +6,11 @@ use lib.IntN.{pos, natAbs, _+ℤ_}
 use Rattle.rounding.specs.Nearest.{nearest, nearestℤ}
 use Rattle.fractions.specs.Ratio.{_over_, whole, _⊕_, _⊗_, inverse}
 use Rattle.rates.specs.ByHand.{Figure, _is_, all-are}
-use Rattle.annuity.specs.Recursion.{carried}
+use Rattle.factors.specs.Recursion.{carried}
 use Rattle.rates.specs.Rates.{able, serves, leaves, stays, rates}
 use Rattle.rates.specs.Table.{staying}
-use Rattle.annuity.specs.Factors.{step, A, pension, G, T, Z, C}
-use Rattle.annuity.specs.Figures.{short, factors}
+use Rattle.factors.specs.Factors.{step, A, pension, G, T, Z, C}
+use Rattle.factors.specs.Figures.{short, factors}
 use Rattle.plan.specs.declared.Plan.{Plan}
 use Rattle.plan.specs.Weights.{summed}
 use Rattle.plan.specs.Benefit.{formulaOf, pay, pays, exactBenefit, B}

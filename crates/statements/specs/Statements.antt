@@ -7,8 +7,8 @@ use lib.ListN.{length, getD}
 use lib.IntN.{natAbs}
 use Rattle.fractions.specs.Ratio.{_over_, whole, _⊕_, _⊘_}
 use Rattle.fractions.specs.Fraction.{Fraction, integer, _⊙_, Apart}
-use Rattle.annuity.specs.Factors.{S, C*}
-use Rattle.annuity.specs.Accuracy.{Within}
+use Rattle.factors.specs.Factors.{S, C*}
+use Rattle.factors.specs.Accuracy.{Within}
 use Rattle.plan.specs.declared.Plan.{Plan}
 use Rattle.plan.specs.declared.Member.{Member}
 use Rattle.plan.specs.declared.Method.{Method}

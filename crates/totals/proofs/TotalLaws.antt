@@ -14,8 +14,8 @@ use lib.IntN.{ℤ, pos, negsuc, _-ℤ_}
 use Rattle.rounding.specs.Nearest.{nearest}
 use Rattle.rounding.specs.Signed.{integerOf, signed}
 use Rattle.rounding.proofs.NearestLaws.{nearest-shrinks}
-use Rattle.annuity.specs.Factors.{S, C}
-use Rattle.annuity.proofs.Sizes.{C-least}
+use Rattle.factors.specs.Factors.{S, C}
+use Rattle.factors.proofs.Sizes.{C-least}
 use Rattle.plan.specs.declared.Plan.{Plan}
 use Rattle.plan.specs.declared.Member.{Member}
 use Rattle.costs.specs.declared.Figures.{Figures}

@@ -19,7 +19,7 @@ ghost use Prim.Native.Nat.{_≤_, _<_};
 ghost use lib.IntN.{pos, _-ℤ_, _*ℤ_};
 ghost use Rattle.rounding.specs.Nearest.{nearestℤ};
 ghost use Rattle.rounding.specs.Signed.{integerOf, signed};
-ghost use Rattle.annuity.specs.Factors.{S as Factors·S, C};
+ghost use Rattle.factors.specs.Factors.{S as Factors·S, C};
 ghost use Rattle.walk.specs.Lines.{mostMembers};
 ghost use Rattle.shared_engine.specs.Shared.{Shared};
 ghost use Rattle.members.specs.Array.{memberAt};

@@ -4,10 +4,10 @@ use Prim.Native.Nat.{ℕ, _+_, _-_, _*_, _≤_}
 use native.Mathlib.Nat.{lt-of-le-of-lt}
 use native.Mathlib.Omega.{arith}
 use Rattle.rounding.specs.Nearest.{nearest}
-use Rattle.annuity.proofs.YearStep.{step-shrinks}
-use Rattle.annuity.specs.Factors.{S, C}
-use Rattle.annuity.proofs.Equations.{C-none, C-more}
-use Rattle.annuity.proofs.Sizes.{C-most}
+use Rattle.factors.proofs.YearStep.{step-shrinks}
+use Rattle.factors.specs.Factors.{S, C}
+use Rattle.factors.proofs.Equations.{C-none, C-more}
+use Rattle.factors.proofs.Sizes.{C-most}
 use Rattle.annuity.proofs.certain_annuity.Statement.{statement}
 use Rattle.annuity.proofs.certain_annuity.Tie as tie
 

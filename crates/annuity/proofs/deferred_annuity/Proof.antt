@@ -1,8 +1,8 @@
 -- `annuity::deferred_annuity` meets its contract.
 use native.Mathlib.Omega.{arith}
-use Rattle.annuity.specs.Basis.{basis, payable}
-use Rattle.annuity.proofs.Bases.{basis-fair, payable-fair}
-use Rattle.annuity.proofs.PensionLaws.{pension-most}
+use Rattle.factors.specs.Basis.{basis, payable}
+use Rattle.factors.proofs.Bases.{basis-fair, payable-fair}
+use Rattle.factors.proofs.PensionLaws.{pension-most}
 use Rattle.annuity.proofs.Filling.{deferred-filled}
 use borrow.Author.Needs.{needs}
 use Rattle.annuity.proofs.deferred_annuity.Statement.{statement}

@@ -5,9 +5,9 @@ use Prim.Native.Nat.{ℕ, _+_, _-_, _≤_}
 use native.Mathlib.Omega.{arith}
 use lib.ListN.{getD}
 use Rattle.rates.specs.Table.{Sound}
-use Rattle.annuity.specs.Basis.{basis}
+use Rattle.factors.specs.Basis.{basis}
 use Rattle.annuity.specs.Filled.{Filled, factor}
-use Rattle.annuity.proofs.Bases.{basis-fair}
+use Rattle.factors.proofs.Bases.{basis-fair}
 use Rattle.annuity.proofs.Filling.{filled-first, filled-more, factor-top, factor-by-row, factor-most}
 use Rattle.annuity.proofs.fill.Statement.{statement}
 use Rattle.annuity.proofs.fill.Tie as tie

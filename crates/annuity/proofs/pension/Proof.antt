@@ -5,10 +5,10 @@ use native.Mathlib.Omega.{arith}
 use lib.ListN.{getD}
 use borrow.Author.Needs.{needs}
 use borrow.Author.Tests.{eq-eqb, ne-eqb}
-use Rattle.annuity.specs.Basis.{basis, payable}
-use Rattle.annuity.specs.Factors.{monthlyLess, A, pension}
-use Rattle.annuity.proofs.Bases.{A-payable}
-use Rattle.annuity.proofs.Life.{A-least}
+use Rattle.factors.specs.Basis.{basis, payable}
+use Rattle.factors.specs.Factors.{monthlyLess, A, pension}
+use Rattle.factors.proofs.Bases.{A-payable}
+use Rattle.factors.proofs.Life.{A-least}
 use Rattle.annuity.proofs.pension.Statement.{statement}
 use Rattle.annuity.proofs.pension.Tie as tie
 

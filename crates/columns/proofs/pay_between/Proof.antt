@@ -1,5 +1,5 @@
 -- `columns::pay_between` meets its contract: Z is a case of the one factor.
-use Rattle.annuity.specs.Factors.{Z}
+use Rattle.factors.specs.Factors.{Z}
 use Rattle.annuity.specs.Filled.{paidOf, factor}
 use Rattle.columns.proofs.pay_between.Statement.{statement}
 use Rattle.columns.proofs.pay_between.Tie as tie

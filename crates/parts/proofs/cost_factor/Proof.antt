@@ -2,7 +2,7 @@
 use Prim.Native.Nat.{_*_}
 use native.Mathlib.Nat.{mul-le-mul}
 use native.Mathlib.Omega.{arith}
-use Rattle.annuity.specs.Factors.{S}
+use Rattle.factors.specs.Factors.{S}
 use borrow.Author.Needs.{needs}
 use Rattle.parts.proofs.cost_factor.Statement.{statement}
 use Rattle.parts.proofs.cost_factor.Tie as tie

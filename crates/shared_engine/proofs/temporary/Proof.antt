@@ -6,8 +6,8 @@ use Rattle.rates.specs.Table.{Table}
 use Rattle.plan.specs.declared.Plan.{Plan}
 use Rattle.plan.specs.declared.Member.{Member}
 use Rattle.plan.specs.Ranges.{MemberRanges}
-use Rattle.annuity.specs.Basis.{basis}
-use Rattle.annuity.proofs.Bases.{T-payable, Z-payable}
+use Rattle.factors.specs.Basis.{basis}
+use Rattle.factors.proofs.Bases.{T-payable, Z-payable}
 use Rattle.columns.proofs.ColumnLaws.{as-they-were}
 use Rattle.costs.proofs.Needs.{facts}
 use borrow.Author.Needs.{needs}

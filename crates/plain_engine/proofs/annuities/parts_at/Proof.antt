@@ -1,9 +1,9 @@
--- `plain_engine::factors::parts_at` meets its contract.
+-- `plain_engine::annuities::parts_at` meets its contract.
 use native.Mathlib.Nat.{le-refl, le-of-lt}
 use Rattle.costs.proofs.Needs.{workable}
 use borrow.Author.Needs.{needs}
-use Rattle.plain_engine.proofs.factors.parts_at.Statement.{statement}
-use Rattle.plain_engine.proofs.factors.parts_at.Tie as tie
+use Rattle.plain_engine.proofs.annuities.parts_at.Statement.{statement}
+use Rattle.plain_engine.proofs.annuities.parts_at.Tie as tie
 
 deferred-annuity-requires : tie.Need-deferred-annuity-requires
 deferred-annuity-requires c κs =

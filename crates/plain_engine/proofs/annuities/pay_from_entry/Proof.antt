@@ -1,12 +1,12 @@
--- `plain_engine::factors::pay_from_entry` meets its contract.
+-- `plain_engine::annuities::pay_from_entry` meets its contract.
 use mathlib.Core.Path.{sym, ap, _∙_}
 use Prim.Native.Nat.{ℕ}
 use native.Mathlib.Nat.{le-refl, le-trans}
-use Rattle.annuity.specs.Basis.{basis}
-use Rattle.annuity.proofs.Bases.{Z-payable}
+use Rattle.factors.specs.Basis.{basis}
+use Rattle.factors.proofs.Bases.{Z-payable}
 use Rattle.costs.proofs.Needs.{in-table, workable}
-use Rattle.plain_engine.proofs.factors.pay_from_entry.Statement.{statement}
-use Rattle.plain_engine.proofs.factors.pay_from_entry.Tie as tie
+use Rattle.plain_engine.proofs.annuities.pay_from_entry.Statement.{statement}
+use Rattle.plain_engine.proofs.annuities.pay_from_entry.Tie as tie
 
 pay-annuity-requires : tie.Need-pay-annuity-requires
 pay-annuity-requires c κs =

@@ -6,11 +6,11 @@ use native.Mathlib.Omega.{arith}
 use Rattle.fractions.specs.Ratio.{whole, Proper, Positive, _≼_}
 use Rattle.fractions.proofs.RatioLaws.{whole-proper}
 use Rattle.fractions.proofs.OrderLaws.{_∙≼_}
-use Rattle.annuity.specs.Basis.{Basis, Fair, certain}
-use Rattle.annuity.specs.Factors.{S, pension, pension*, G, G*, T, T*, Z, Z*, v, C, C*}
-use Rattle.annuity.proofs.Bases.{certain-fair}
-use Rattle.annuity.proofs.PensionLaws.{pension*-proper, pension-most, pension*-most}
-use Rattle.annuity.proofs.Annuities.{deferred-proper, annuity-proper, annuity-least, annuity-positive, annuity-most, deferred-most, deferred*-most, annuity-longer, annuity*-longer}
+use Rattle.factors.specs.Basis.{Basis, Fair, certain}
+use Rattle.factors.specs.Factors.{S, pension, pension*, G, G*, T, T*, Z, Z*, v, C, C*}
+use Rattle.factors.proofs.Bases.{certain-fair}
+use Rattle.factors.proofs.PensionLaws.{pension*-proper, pension-most, pension*-most}
+use Rattle.factors.proofs.Annuities.{deferred-proper, annuity-proper, annuity-least, annuity-positive, annuity-most, deferred-most, deferred*-most, annuity-longer, annuity*-longer}
 
 module _ (b : Basis) where
   -- ---- every exact lower is above 0

@@ -9,8 +9,8 @@ use lib.Dec.{eqb}
 use Rattle.rounding.specs.Nearest.{nearest}
 use Rattle.fractions.specs.Ratio.{Ratio, _over_, whole, _⊕_, _⊝_, _⊗_}
 use Rattle.rates.specs.ByHand.{_is_, all-are}
-use Rattle.annuity.specs.Recursion.{carried}
-use Rattle.annuity.specs.Basis.{Basis, certain}
+use Rattle.factors.specs.Recursion.{carried}
+use Rattle.factors.specs.Basis.{Basis, certain}
 
 -- rule 8.1: one, in billionths
 abbrev pub S : ℕ

@@ -5,11 +5,11 @@ use native.Mathlib.Omega.{arith}
 use Rattle.fractions.specs.Ratio.{_over_, whole, Proper, _≼_}
 use Rattle.fractions.proofs.RatioLaws.{whole-proper}
 use Rattle.fractions.proofs.OrderLaws.{≼-refl, _∙≼_, ≼-⊕, whole-≼}
-use Rattle.annuity.specs.Basis.{Basis, Fair}
-use Rattle.annuity.specs.Factors.{S, A, A*}
-use Rattle.annuity.proofs.Carried.{carried-each}
-use Rattle.annuity.proofs.Distance.{Halves, halves-more}
-use Rattle.annuity.proofs.Annuities.{paying, paying*, step*-proper, annuity-proper, annuity-most, annuity*-most, annuity-halves}
+use Rattle.factors.specs.Basis.{Basis, Fair}
+use Rattle.factors.specs.Factors.{S, A, A*}
+use Rattle.factors.proofs.Carried.{carried-each}
+use Rattle.factors.proofs.Distance.{Halves, halves-more}
+use Rattle.factors.proofs.Annuities.{paying, paying*, step*-proper, annuity-proper, annuity-most, annuity*-most, annuity-halves}
 
 module _ (b : Basis) where
   pub A*-proper : (k : ℕ) → Proper (A* b k)

@@ -6,11 +6,11 @@ use native.Mathlib.Omega.{arith}
 use Rattle.fractions.specs.Ratio.{Ratio, _over_, whole, _⊕_, _⊗_, Proper, _≈_}
 use Rattle.fractions.proofs.RatioLaws.{⊕-assoc, ⊕-zero, zero-⊕, one-⊗, whole-proper, over-proper, ⊗-proper, AC, proper}
 use Rattle.fractions.proofs.EqualLaws.{≈-refl, ≈-of, _∙≈_, ⊕-cong, ⊗-cong, zero-⊗, ⊕-⊗}
-use Rattle.annuity.specs.Recursion.{carried}
-use Rattle.annuity.specs.Basis.{Basis}
-use Rattle.annuity.specs.Factors.{S, step*, pension*, G*, T*, Z*, v}
-use Rattle.annuity.proofs.Carried.{carried-both, carried-split}
-use Rattle.annuity.proofs.Annuities.{paying*, deferred-proper, annuity-proper}
+use Rattle.factors.specs.Recursion.{carried}
+use Rattle.factors.specs.Basis.{Basis}
+use Rattle.factors.specs.Factors.{S, step*, pension*, G*, T*, Z*, v}
+use Rattle.factors.proofs.Carried.{carried-both, carried-split}
+use Rattle.factors.proofs.Annuities.{paying*, deferred-proper, annuity-proper}
 
 module _ (b : Basis) where
   rate-proper : (k : ℕ) → Proper (b .P k over (100 * (10000 + b .i)))

@@ -4,8 +4,8 @@ use mathlib.Core.List.{List}
 use Prim.Native.Nat.{ℕ}
 use native.Mathlib.Omega.{arith}
 use Rattle.rates.specs.Table.{staying}
-use Rattle.annuity.specs.Basis.{Basis, Fair, basis, payable, certain}
-use Rattle.annuity.specs.Factors.{step, A, T, Z}
+use Rattle.factors.specs.Basis.{Basis, Fair, basis, payable, certain}
+use Rattle.factors.specs.Factors.{step, A, T, Z}
 use Rattle.rates.proofs.Rates.{leaving-and-staying}
 
 -- whatever the rows hold

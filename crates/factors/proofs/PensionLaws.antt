@@ -10,10 +10,10 @@ use Rattle.fractions.specs.Ratio.{_over_, whole, _⊕_, _⊗_, Proper, _≈_, _
 use Rattle.fractions.proofs.RatioLaws.{over-proper, whole-proper, ⊝-proper, ⊗-proper}
 use Rattle.fractions.proofs.OrderLaws.{_∙≼_, ⊝-≼}
 use Rattle.fractions.proofs.EqualLaws.{⊝-⊕}
-use Rattle.annuity.specs.Basis.{Basis, Fair}
-use Rattle.annuity.specs.Factors.{S, monthlyLess, monthlyLess*, A, A*, pension, pension*}
-use Rattle.annuity.proofs.Distance.{Halves, halves-more, halves-less}
-use Rattle.annuity.proofs.Life.{A*-proper, A-least, A*-least, A-most, A*-most, A-halves}
+use Rattle.factors.specs.Basis.{Basis, Fair}
+use Rattle.factors.specs.Factors.{S, monthlyLess, monthlyLess*, A, A*, pension, pension*}
+use Rattle.factors.proofs.Distance.{Halves, halves-more, halves-less}
+use Rattle.factors.proofs.Life.{A*-proper, A-least, A*-least, A-most, A*-most, A-halves}
 
 -- ---- 11/24
 monthly-proper : Proper monthlyLess*

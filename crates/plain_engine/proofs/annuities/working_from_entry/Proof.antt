@@ -1,12 +1,12 @@
--- `plain_engine::factors::working_from_entry` meets its contract.
+-- `plain_engine::annuities::working_from_entry` meets its contract.
 use mathlib.Core.Path.{sym, ap, _∙_}
 use Prim.Native.Nat.{ℕ}
 use native.Mathlib.Nat.{le-refl, le-trans}
-use Rattle.annuity.specs.Basis.{basis}
-use Rattle.annuity.proofs.Bases.{T-payable}
+use Rattle.factors.specs.Basis.{basis}
+use Rattle.factors.proofs.Bases.{T-payable}
 use Rattle.costs.proofs.Needs.{in-table, workable}
-use Rattle.plain_engine.proofs.factors.working_from_entry.Statement.{statement}
-use Rattle.plain_engine.proofs.factors.working_from_entry.Tie as tie
+use Rattle.plain_engine.proofs.annuities.working_from_entry.Statement.{statement}
+use Rattle.plain_engine.proofs.annuities.working_from_entry.Tie as tie
 
 working-annuity-requires : tie.Need-working-annuity-requires
 working-annuity-requires c κs =

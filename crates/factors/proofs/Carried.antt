@@ -2,7 +2,7 @@
 use mathlib.Core.Path.{_≡_, refl, ap, _∙_}
 use Prim.Native.Nat.{ℕ, zero, suc, _+_, _-_, _≤_, _<_}
 use native.Mathlib.Omega.{arith}
-use Rattle.annuity.specs.Recursion.{carried}
+use Rattle.factors.specs.Recursion.{carried}
 
 pub carried-at : {F : Type 0} (year : ℕ → F → F) (start : F) (e : ℕ) → carried year start e (e - e) ≡ start
 unfolding carried

@@ -3,15 +3,15 @@ use Prim.Native.Nat.{ℕ, _-_, _*_, _≤_, _<_}
 use native.Mathlib.Nat.{le-refl, mul-le-mul-right}
 use native.Mathlib.Omega.{arith}
 use Rattle.fractions.specs.Ratio.{_over_, whole}
-use Rattle.annuity.specs.Basis.{Basis, Fair, certain}
-use Rattle.annuity.specs.Factors.{S, pension, pension*, G, G*, T, T*, Z, Z*, C, C*}
-use Rattle.annuity.specs.Accuracy.{A-Accuracy, G-Accuracy, T-Accuracy, Z-Accuracy, C-Accuracy}
-use Rattle.annuity.proofs.Bases.{certain-fair}
-use Rattle.annuity.proofs.Distance.{Halves, Part, halves-more, halves-apart, part-apart}
-use Rattle.annuity.proofs.Annuities.{annuity-part, deferred-halves}
-use Rattle.annuity.proofs.Life.{A*-proper, A-halves}
-use Rattle.annuity.proofs.PensionLaws.{pension-halves}
-use Rattle.annuity.proofs.Sizes.{G*-proper, T*-proper, Z*-proper}
+use Rattle.factors.specs.Basis.{Basis, Fair, certain}
+use Rattle.factors.specs.Factors.{S, pension, pension*, G, G*, T, T*, Z, Z*, C, C*}
+use Rattle.factors.specs.Accuracy.{A-Accuracy, G-Accuracy, T-Accuracy, Z-Accuracy, C-Accuracy}
+use Rattle.factors.proofs.Bases.{certain-fair}
+use Rattle.factors.proofs.Distance.{Halves, Part, halves-more, halves-apart, part-apart}
+use Rattle.factors.proofs.Annuities.{annuity-part, deferred-halves}
+use Rattle.factors.proofs.Life.{A*-proper, A-halves}
+use Rattle.factors.proofs.PensionLaws.{pension-halves}
+use Rattle.factors.proofs.Sizes.{G*-proper, T*-proper, Z*-proper}
 
 whole-part : (s n : ℕ) → Part s n (whole n)
 unfolding whole _over_

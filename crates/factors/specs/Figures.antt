@@ -6,11 +6,11 @@ use Prim.Native.Nat.{ℕ}
 use lib.ListN.{replicate}
 use Rattle.rounding.specs.Nearest.{nearest}
 use Rattle.rates.specs.ByHand.{Figure, _is_, all-are}
-use Rattle.annuity.specs.Recursion.{carried}
+use Rattle.factors.specs.Recursion.{carried}
 use Rattle.rates.specs.Rates.{able, serves, leaves, stays, crowded, rates}
 use Rattle.rates.specs.Table.{staying}
-use Rattle.annuity.specs.Basis.{Basis, basis, payable}
-use Rattle.annuity.specs.Factors.{step, A, pension, G, T}
+use Rattle.factors.specs.Basis.{Basis, basis, payable}
+use Rattle.factors.specs.Factors.{step, A, pension, G, T}
 
 -- the short table of rule 14.1 but for the row of age 64: nobody dies before that, and all do at 65; the weight is 1000, and 1100 from
 -- 65 on

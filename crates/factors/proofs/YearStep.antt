@@ -5,7 +5,7 @@ use native.Mathlib.Omega.{arith}
 use Rattle.rounding.specs.Nearest.{nearest}
 use Rattle.rounding.proofs.NearestLaws.{nearest-below, nearest-above, nearest-mono, nearest-shrinks}
 use Rattle.fractions.specs.Ratio.{Ratio, _over_, whole, _⊕_, _⊗_, Proper, _≼_}
-use Rattle.annuity.proofs.Distance.{Halves, Part}
+use Rattle.factors.proofs.Distance.{Halves, Part}
 
 -- multiplies out and sorts products
 ruleset sorted = (mul-add, add-mul, mul-assoc, mul-comm, mul-left-comm)

@@ -2,8 +2,8 @@
 use Prim.Native.Nat.{ℕ, _-_, _*_, _≤_, _<_}
 use Rattle.fractions.specs.Ratio.{Ratio, _over_, whole, _⊗_}
 use Rattle.fractions.specs.Fraction.{fraction, Apart}
-use Rattle.annuity.specs.Basis.{Basis, Fair}
-use Rattle.annuity.specs.Factors.{S, A, A*, G, G*, T, T*, Z, Z*, C, C*}
+use Rattle.factors.specs.Basis.{Basis, Fair}
+use Rattle.factors.specs.Factors.{S, A, A*, G, G*, T, T*, Z, Z*, C, C*}
 
 -- the whole number f and the fraction a differ, either way, by the limit at most
 abbrev pub Within : Ratio → ℕ → Ratio → Type 0

@@ -8,7 +8,7 @@ use plan::Plan;
 use rates::Rows;
 ghost use mathlib.Core.Path.{_≡_};
 ghost use Prim.Native.Nat.{_≤_};
-ghost use Rattle.annuity.specs.Factors.{T, Z};
+ghost use Rattle.factors.specs.Factors.{T, Z};
 ghost use Rattle.plan.specs.Ranges.{MemberRanges};
 ghost use Rattle.costs.specs.Valuation.{settingOf, planBasis};
 ghost use Rattle.parts.specs.Parts.{partsAt};

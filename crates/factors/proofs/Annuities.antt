@@ -7,12 +7,12 @@ use native.Mathlib.Omega.{arith}
 use Rattle.fractions.specs.Ratio.{Ratio, whole, _⊕_, Proper, Positive, _≼_}
 use Rattle.fractions.proofs.RatioLaws.{whole-proper, over-proper, ⊕-proper, ⊗-proper, whole-positive, ⊕-positive, whole-⊕}
 use Rattle.fractions.proofs.OrderLaws.{zero-≼, ≼-refl, _∙≼_, ⊕-mono, ⊗-mono, whole-≼}
-use Rattle.annuity.specs.Recursion.{carried}
-use Rattle.annuity.specs.Basis.{Basis, Fair}
-use Rattle.annuity.specs.Factors.{step, step*}
-use Rattle.annuity.proofs.Carried.{carried-before, carried-both, carried-each, carried-split}
-use Rattle.annuity.proofs.Distance.{Halves, Part, halves-plus}
-use Rattle.annuity.proofs.YearStep.{step-mono, step-shrinks, exact-step-shrinks, step-halves, step-part}
+use Rattle.factors.specs.Recursion.{carried}
+use Rattle.factors.specs.Basis.{Basis, Fair}
+use Rattle.factors.specs.Factors.{step, step*}
+use Rattle.factors.proofs.Carried.{carried-before, carried-both, carried-each, carried-split}
+use Rattle.factors.proofs.Distance.{Halves, Part, halves-plus}
+use Rattle.factors.proofs.YearStep.{step-mono, step-shrinks, exact-step-shrinks, step-halves, step-part}
 
 module _ (b : Basis) where
   -- a year of an annuity: the amount of the year, and the step of what follows

@@ -1,7 +1,7 @@
--- `plain_engine::factors::temporary` meets its contract.
+-- `plain_engine::annuities::temporary` meets its contract.
 use borrow.Author.Needs.{needs}
-use Rattle.plain_engine.proofs.factors.temporary.Statement.{statement}
-use Rattle.plain_engine.proofs.factors.temporary.Tie as tie
+use Rattle.plain_engine.proofs.annuities.temporary.Statement.{statement}
+use Rattle.plain_engine.proofs.annuities.temporary.Tie as tie
 
 pub temporary-spec : {M : Type 1} → statement M
 temporary-spec =

@@ -4,10 +4,10 @@ use Prim.Native.Nat.{ℕ, _+_, _-_, _*_, _<_}
 use native.Mathlib.Omega.{arith}
 use Rattle.rounding.specs.Nearest.{nearest}
 use Rattle.fractions.specs.Ratio.{Ratio, _over_, whole, _⊕_, _⊗_}
-use Rattle.annuity.specs.Recursion.{carried}
-use Rattle.annuity.specs.Basis.{Basis, certain}
-use Rattle.annuity.specs.Factors.{S, step, step*, A, A*, pension, pension*, G, G*, T, T*, Z, Z*, v, C, C*}
-use Rattle.annuity.proofs.Carried.{carried-at, carried-before, carried-still}
+use Rattle.factors.specs.Recursion.{carried}
+use Rattle.factors.specs.Basis.{Basis, certain}
+use Rattle.factors.specs.Factors.{S, step, step*, A, A*, pension, pension*, G, G*, T, T*, Z, Z*, v, C, C*}
+use Rattle.factors.proofs.Carried.{carried-at, carried-before, carried-still}
 
 module _ (b : Basis) where
   open Basis b using (i, r, P, W)
