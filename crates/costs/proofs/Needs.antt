@@ -23,7 +23,7 @@ worth-most benefit deferred h =
     omega (arith, nearest-mono (benefit * deferred) (benefit * 71 * S) S (omega arith) (omega (arith, mul-le-mul {n₁ = benefit} {n₂ = benefit} (omega arith) h)), nearest-exact (benefit * 71) S (omega arith))
 
 pub plan-fair : (p : Plan) (rows : List (List ℕ)) → Fair (planBasis p rows)
-plan-fair p rows = payable-fair (p .pay) (basis-fair rows (p .retire) (p .interest))
+plan-fair p rows = payable-fair _ (basis-fair rows (p .retire) (p .interest))
 
 module _ (p : Plan) (rows : List (List ℕ)) (m : Member) (accepted : MemberRanges p rows m) where
   pub facts : PlanRanges p rows
