@@ -2,7 +2,7 @@
 // and 10. specs/Costs.antt has the figures, rounded and exact, in the rules' letters; specs/Demand3.antt the two
 // statements about them, the equal forms of the liability and the limits; specs/Valuation.antt the answer for plain
 // values. There is no code here: the figures are made of a member's parts (crate parts), and an engine works the parts
-// (plain_engine).
+// (plain_engine, shared_engine).
 
 // The benefit B(r), its present value V, the normal cost N and the liability L, in cents.
 pub struct Figures {

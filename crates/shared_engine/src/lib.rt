@@ -1,6 +1,6 @@
 // The shared engine: a member's figures by annuities that all members of a plan share. G is filled once a plan. T, by CD, and
-// Z, by CP, stand in columns, each of which is filled when a member first needs it. The crate parts makes the parts of
-// them, as for the plain engine, and the figures. specs/Shared.antt says what is kept between two members.
+// Z, by CP, stand in columns, each of which is filled when a member first needs it. The crate measures makes the parts
+// of them, as for the plain engine, and the crate parts the figures. specs/Shared.antt says what is kept between two members.
 use annuity::Factors;
 use columns::Columns;
 use columns::Marks;
