@@ -88,8 +88,8 @@ class Cell(NamedTuple):
 NOT_BY_ITS_RATES = {
     Cell('6-3', 'CD L/V', 38, '69.60', '69.61'),
     Cell('6-3', 'CP L/V', 40, '53.60', '53.61'),
-    Cell('5-1', 'monthly from 65', 80, '60.47', '60.48'),
-    Cell('5-1', 'monthly from 65', 92, '36.84', '36.85'),
+    Cell('5-1', 'from 65', 80, '60.47', '60.48'),
+    Cell('5-1', 'from 65', 92, '36.84', '36.85'),
 }
 # Cells of which we have the accrued part no nearer than table 6-3 prints it: a part that rounds to that gives the cell.
 BY_A_ROUNDED_PART = {
@@ -157,16 +157,16 @@ def annuity_cells(valued, rows):
             yield Cell('3-6', f'certain, {rate} percent', years, cell, hundredths(Fraction(unfunded, supplemental)))
 
 
-def monthly_cells(valued, factors, rows):
+def retired_cells(valued, factors, rows, pay):
     """Table 5-1 from 65 on. Nobody retires later than at 75 in a file, so that later ages have the annuities alone."""
-    plan = MODEL._replace(pay=MONTHLY)
+    plan = MODEL._replace(pay=pay)
     worth = {age: at_retirement(valued, plan._replace(retire=age), rows) for age in FROM_65 if age <= LAST_RETIRE}
     later = [age for age in FROM_65 if age > LAST_RETIRE]
     asked = [annuity_factors.Case(plan.interest, age, plan.pay, FIRST, 0, rows) for age in later]
     for age, (_, deferred, *_) in zip(later, factors(asked)):
         worth[age] = Fraction(int(deferred.split()[-1]), S)
     for age, cell in FROM_65.items():
-        yield Cell('5-1', 'monthly from 65', age, cell, percent(worth[age], worth[RETIRE]))
+        yield Cell('5-1', 'from 65', age, cell, percent(worth[age], worth[RETIRE]))
 
 
 def accrued_cells(valued, rows):
@@ -198,14 +198,18 @@ def check(valued, factors):
     """Holds the cells to what a case file's lines, and the lines of annuities, give."""
     rows = model_rows()
     cells = [*career_cells(valued, rows), *annuity_cells(valued, rows), *accrued_cells(valued, rows),
-             *monthly_cells(valued, factors, rows)]
+             *retired_cells(valued, factors, rows, MONTHLY)]
     show(cells)
     differing = {cell for cell in cells if not cell.agrees()}
     if differing != KNOWN:
         sys.exit(f'textbook: other cells differ than the known ones: {differing ^ KNOWN}')
+    yearly = [cell.row for cell in retired_cells(valued, factors, rows, YEARLY) if cell.agrees()]
+    if yearly != [RETIRE]:
+        sys.exit(f'textbook: paid yearly, table 5-1 agrees at {yearly}')
     tables = Counter(cell.table for cell in cells)
     print(f'textbook: of {len(cells)} cells ({", ".join(f"table {name} {tables[name]}" for name in sorted(tables))}), '
-          f'{len(cells) - len(differing)} agree to the printed hundredth, and {len(differing)} are off by 0.01 as known')
+          f'{len(cells) - len(differing)} agree to the printed hundredth, and {len(differing)} are off by 0.01 as known; '
+          f'paid yearly, of the last column of table 5-1 only the cell of {RETIRE} would agree')
 
 
 def main():

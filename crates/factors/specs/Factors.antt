@@ -80,7 +80,7 @@ unfoldable pub C* : ℕ → ℕ → Ratio
 C* i m = T* (certain i) 0 m
 
 -- ---- rules 8.5 and 10.1, worked where nobody dies before 120, at no interest: at 118 there are three payments to come. They stand here, so
--- that a wrong definition is refused by them: 11/24 comes off once, and exactly it comes off S
+-- that a wrong definition is refused by them: 11/24 comes off once, and off the exact fraction it is 11/24 itself that comes
 abbrev three-payments : ℕ → Basis
 three-payments pay = record { i = 0; r = 118; pay = pay; P = λ k. 1000000; W = λ k. 1000 }
 
