@@ -2,18 +2,20 @@
 //! over the bytes: form.rs for reading, reader.rs for accepting. bench/casefile builds and runs it. The sides take
 //! turns, and the best round of each counts. Exits 1 where an answer differs, of these files or of many damaged ones.
 //!
-//! The same on both sides: the grammar, the rules in their order, the answer, and in accepting B(r) of each member. What
-//! differs: reading in Rattle stores the rows and the members, in arrays that it clears first and throws away; form.rs
-//! keeps none. Accepting keeps both on either side: Rattle in such arrays, copied out once all is accepted, so that a
-//! refusal leaves the caller's as they were; reader.rs in an array and a Vec that grows, handed back as they are.
+//! The same on both sides: the grammar, the rules in their order, the answer, and in accepting B(r) of each member and the
+//! table of persons.rs, cleared for each file, in which the sum of its person is sought cell by cell. What differs: reading
+//! in Rattle stores the rows and the members, in arrays that it clears first and throws away; form.rs keeps none. Accepting
+//! keeps both on either side: Rattle in such arrays, copied out once all is accepted, so that a refusal leaves the caller's
+//! as they were; reader.rs in an array and a Vec that grows, handed back as they are.
 #[expect(dead_code, reason = "what is read is not valued here")]
 mod factors;
 mod files;
 mod form;
+mod persons;
 #[expect(dead_code, reason = "what is read is not valued here")]
 mod reader;
 
-use files::{Random, case, member, row};
+use files::{PERSONS, Random, case, member, member_of, row};
 use reader::{LARGEST, MEMBERS};
 use std::process::exit;
 use std::time::Instant;
@@ -63,14 +65,19 @@ mod rust {
     }
 }
 
-/// A row and a member whose numbers are as wide as a file of 65,536 bytes can hold. Their form is right.
+/// A row and a member whose numbers are about as wide as a file of 65,536 bytes can hold. Their form is right.
 fn wide_row(age: usize) -> String {
     format!("row={age},{},{},{},{}\n", 10_000 + age, 20_000 + age, 30_000 + age, 40_000 + age)
 }
 
 fn wide_member(j: usize) -> String {
-    let wide = |first: usize| first * 100_000_000_000 + 7_654_321 * j;
-    format!("member={},{},{},{}.{:02}\n", wide(1), wide(2), wide(3), wide(4), j % 100)
+    let wide = |first: usize| first * 100_000_000 + 7_654 * j;
+    format!("member={},{},{},{},{}.{:02}\n", wide(1), wide(2), wide(3), wide(4), wide(5), j % 100)
+}
+
+/// 1,000 lines of these persons. The unit is so low that all of them may be one person's: they come to 943064.64.
+fn of_persons(person: fn(usize) -> usize) -> Vec<u8> {
+    case(&HEADING.replace("unit=150", "unit=5"), MEMBERS, row, |j| member_of(j, person(j)))
 }
 
 /// One side's best time for a file, in µs.
@@ -91,25 +98,25 @@ impl Side {
 
 /// A file that nothing is refused in, and what is done with it.
 struct Case {
-    name: &'static str,
+    name: String,
     bytes: Vec<u8>,
     rattle: Side,
     rust: Side,
 }
 
 impl Case {
-    fn new(name: &'static str, bytes: Vec<u8>, rattle: fn(&[u8]) -> Answer, rust: fn(&[u8]) -> Answer) -> Case {
+    fn new(name: String, bytes: Vec<u8>, rattle: fn(&[u8]) -> Answer, rust: fn(&[u8]) -> Answer) -> Case {
         assert!(bytes.len() <= LARGEST);
         let side = |answer| Side { answer, best: f64::INFINITY };
         Case { name, bytes, rattle: side(rattle), rust: side(rust) }
     }
 
-    fn reading(name: &'static str, bytes: Vec<u8>) -> Case {
-        Case::new(name, bytes, rattle::read, rust::read)
+    fn reading(what: &str, bytes: Vec<u8>) -> Case {
+        Case::new(format!("reading {what}"), bytes, rattle::read, rust::read)
     }
 
-    fn accepting(name: &'static str, bytes: Vec<u8>) -> Case {
-        Case::new(name, bytes, rattle::accept, rust::accept)
+    fn accepting(what: &str, bytes: Vec<u8>) -> Case {
+        Case::new(format!("accepting {what}"), bytes, rattle::accept, rust::accept)
     }
 
     fn round(&mut self) {
@@ -120,7 +127,7 @@ impl Case {
     fn print(&self) {
         let title = format!("{}, {} bytes", self.name, self.bytes.len());
         let (rattle, rust) = (self.rattle.best, self.rust.best);
-        println!("{title:62} {rattle:8.1} {rust:8.1} {:7.2}", rattle / rust);
+        println!("{title:66} {rattle:8.1} {rust:8.1} {:7.2}", rattle / rust);
     }
 
     /// Exits 1 where the sides answer a damaged file differently.
@@ -140,18 +147,19 @@ fn main() {
     let wide = case(HEADING, MEMBERS, wide_row, wide_member);
     let many = case(HEADING, MEMBERS, row, member);
     let none = case(HEADING, 0, row, member);
-    let mut cases = [
-        Case::reading("reading 1,000 members, numbers of 12 digits", wide),
-        Case::reading("reading 1,000 members", many.clone()),
-        Case::reading("reading no members", none.clone()),
-        Case::accepting("accepting 1,000 members", many),
-        Case::accepting("accepting no members", none),
+    let mut cases = vec![
+        Case::reading("1,000 members, numbers of 9 digits", wide),
+        Case::reading("1,000 members", many.clone()),
+        Case::reading("no members", none.clone()),
+        Case::accepting("1,000 members", many),
+        Case::accepting("no members", none),
     ];
+    cases.extend(PERSONS.map(|(name, person)| Case::accepting(&format!("1,000 lines of {name}"), of_persons(person))));
     for _ in 0..ROUNDS {
         cases.iter_mut().for_each(Case::round);
     }
     let title = format!("one file, µs, best of {ROUNDS} rounds");
-    println!("{title:62} {:>8} {:>8} {:>7}", "Rattle", "Rust", "ratio");
+    println!("{title:66} {:>8} {:>8} {:>7}", "Rattle", "Rust", "ratio");
     cases.iter().for_each(Case::print);
     println!("what differs: Rattle fills arrays, which it clears first, and copies them out where it accepts; Rust keeps");
     println!("nothing where it reads");

@@ -14,14 +14,47 @@ pub fn row(age: usize) -> String {
     format!("row={age},{death},{others},{},{}\n", others / 10, 1_000 + 40 * (age - 15))
 }
 
-/// A member of an accepted file.
+/// A member of an accepted file, another person on each line.
 pub fn member(j: usize) -> String {
-    member_aged(j, 20 + j % 30, 50 + j % 15)
+    member_of(j, another(j))
 }
 
-/// The same with an entry age and an age of the caller's.
-pub fn member_aged(j: usize, entry: usize, age: usize) -> String {
-    format!("member={},{entry},{age},{}.{:02}\n", 100_000_001 + 7 * j, 40_000 + 61 * j, j % 100)
+/// The same of a person of the caller's.
+pub fn member_of(j: usize, person: usize) -> String {
+    member_line(j, person, 20 + j % 30, 50 + j % 15)
+}
+
+/// The same with an entry age and an age of the caller's too.
+pub fn member_line(j: usize, person: usize, entry: usize, age: usize) -> String {
+    format!("member={},{person},{entry},{age},{}.{:02}\n", 100_000_001 + 7 * j, 40_000 + 61 * j, j % 100)
+}
+
+/// Who stands on the lines of a file, by the number of a line: what a search of persons.rs takes depends on it. All have
+/// nine decimal digits.
+pub const PERSONS: [(&str, fn(usize) -> usize); 4] = [
+    ("as many persons", another),
+    ("one person", |_| 123_456_789),
+    ("as many persons of one home", of_one_home),
+    ("one person behind 18 others", behind_others),
+];
+
+/// Another person on each line; their numbers look random.
+pub fn another(j: usize) -> usize {
+    100_000_000 + Random(j as u64).below(900_000_000)
+}
+
+/// Another one on each line, all alike in the 12 binary digits of their home and in the lowest 7 of the 18 that are left: a
+/// path of 7 nodes and then a full tree. A search looks at 15.9 cells on average; no 1,000 different persons make that more
+/// than 17.2.
+fn of_one_home(j: usize) -> usize {
+    4_096 * (128 * (192 + j) + 77) + 777
+}
+
+/// 18 persons of one home, each like the last one in a digit more, and then that one on all other lines. The nth search
+/// looks at n cells, and from the 19th on each at 19: behind a home 18 digits are left, so that none can look at more.
+fn behind_others(j: usize) -> usize {
+    let last = 4_096 * 100_000 + 777;
+    if j < 18 { last ^ (4_096 << j) } else { last }
 }
 
 /// Numbers that look random and are the same in each run (splitmix64).

@@ -46,7 +46,7 @@ fn row(rest: &mut Rest, age: u64) -> Option<()> {
 
 fn member(rest: &mut Rest) -> Option<()> {
     rest.key(b"member=")?;
-    for _ in 0..3 {
+    for _ in 0..4 {
         rest.whole()?;
         rest.key(b",")?;
     }

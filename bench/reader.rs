@@ -1,6 +1,7 @@
 //! A case file read and accepted in Rust, in one pass over the bytes, for the benches to hold the proved one to: RULES
 //! sections 1 to 5 and 7. The answers are the proved ones; bench/casefile says how the work differs.
 use crate::factors::{AGES, FIRST, Row, Rows, nearest_word};
+use crate::persons::Persons;
 
 pub const LARGEST: usize = 65_536;
 pub const MEMBERS: usize = 1_000;
@@ -8,8 +9,9 @@ pub const MEMBERS: usize = 1_000;
 /// The pay of a plan whose pensions are paid monthly; that of a yearly one is 1.
 pub const MONTHLY: u64 = 12;
 
+const MOST_NUMBER: u64 = 999_999_999;
 const MOST_SALARY: u64 = 100_000_000;
-const MOST_BENEFIT: u64 = 100_000_000;
+pub const MOST_BENEFIT: u64 = 100_000_000;
 
 /// A refusal's number and line.
 pub type Refusal = (u64, u64);
@@ -46,6 +48,7 @@ pub struct Plan {
 #[derive(Clone, Copy)]
 pub struct Member {
     pub id: u64,
+    pub person: u64,
     pub entry: u64,
     pub age: u64,
     pub salary: u64,
@@ -128,10 +131,13 @@ fn row_rule(age: u64, before: u64, [death, withdrawal, disability, weight]: [u64
     unless((1_000..=100_000).contains(&weight) && before <= weight, 15)
 }
 
-/// A member after one with the id `before`.
-fn member_rule(plan: &Plan, rows: &Rows, before: u64, m: &Member) -> u64 {
-    if !(1..=999_999_999).contains(&m.id) || m.id <= before {
+/// The nth member, after one with the id `before`: its benefit is added to what its person has.
+fn member_rule(plan: &Plan, rows: &Rows, before: u64, nth: usize, m: &Member, persons: &mut Persons) -> u64 {
+    if !(1..=MOST_NUMBER).contains(&m.id) || m.id <= before {
         return 21;
+    }
+    if !(1..=MOST_NUMBER).contains(&m.person) {
+        return 28;
     }
     if !(15..plan.retire).contains(&m.entry) {
         return 22;
@@ -142,7 +148,11 @@ fn member_rule(plan: &Plan, rows: &Rows, before: u64, m: &Member) -> u64 {
     if m.salary > MOST_SALARY {
         return 24;
     }
-    unless(accrued_benefit(plan, rows, m, plan.retire) <= MOST_BENEFIT, 25)
+    let benefit = accrued_benefit(plan, rows, m, plan.retire);
+    if benefit > MOST_BENEFIT {
+        return 25;
+    }
+    unless(persons.add(nth, m.person, benefit), 29)
 }
 
 // ---- the lines
@@ -182,6 +192,7 @@ impl Rest<'_> {
 
     fn members(&mut self, ranges: bool, plan: &Plan, rows: &Rows) -> Result<Vec<Member>, Refusal> {
         let mut members = Vec::new();
+        let mut persons = Persons::new();
         let mut before = 0;
         loop {
             let count = members.len() as u64;
@@ -192,7 +203,7 @@ impl Rest<'_> {
                 }
                 let m = self.line(20, line, Self::member)?;
                 if ranges {
-                    kept(member_rule(plan, rows, before, &m), line)?;
+                    kept(member_rule(plan, rows, before, members.len() + 1, &m, &mut persons), line)?;
                 }
                 before = m.id;
                 members.push(m);
@@ -250,11 +261,13 @@ impl Rest<'_> {
         self.key(b"member=")?;
         let id = self.whole()?;
         self.key(b",")?;
+        let person = self.whole()?;
+        self.key(b",")?;
         let entry = self.whole()?;
         self.key(b",")?;
         let age = self.whole()?;
         self.key(b",")?;
-        Some(Member { id, entry, age, salary: self.amount()? })
+        Some(Member { id, person, entry, age, salary: self.amount()? })
     }
 
     pub fn end(&mut self) -> Option<u64> {

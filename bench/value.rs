@@ -6,7 +6,8 @@
 //! and the two Rust forms: of these files, of drawn plans or of damaged files, with buffers long and one byte short.
 //!
 //! The same on both sides: the factors worked, year step by year step, and how often; of each member B(r) to accept it and
-//! again to value it, by AB B(x) and B(x+1), by BP the sums of weights. What differs:
+//! again to value it, by AB B(x) and B(x+1), by BP the sums of weights; and the table of persons.rs, cleared for each file,
+//! in which the sum of its person is sought cell by cell. What differs:
 //! - per file, reading and accepting, as casefile.rs says. Rattle keeps the figures in an array of 32,000 bytes, and the
 //!   columns in one of 51,728, both of which it clears; it writes the lines, which surely fit 64 KiB, where they belong, four
 //!   digits at a time. Rust has an Option for each column, writes each line, digit by digit, to a Vec that grows, and copies
@@ -21,12 +22,13 @@ mod entries;
 mod factors;
 mod files;
 mod lines;
+mod persons;
 mod plans;
 mod reader;
 
 use entries::{ALL, Answer, Entry, Entry::*, VALUING};
-use files::Random;
-use plans::{METHODS, all_pairs, drawn, measured};
+use files::{PERSONS, Random};
+use plans::{METHODS, all_pairs, drawn, measured, nearly_all, of_persons};
 use reader::MEMBERS;
 use std::collections::BTreeMap;
 use std::io::Write;
@@ -128,6 +130,15 @@ fn print_choice(title: &str, files: &[File]) {
     }
 }
 
+/// Accepting and the shared engine, by who stands on the lines.
+fn print_persons(title: &str, files: &[File]) {
+    println!("\n{title}\n{:28}{:>27}{:>27}", "", "accepting", "shared");
+    println!("{:28}{SIDES}{SIDES}", "persons");
+    for ((name, _), file) in PERSONS.iter().zip(files) {
+        println!("{name:28}{}{}", file.sides(Accept, RustAccept), file.sides(Shared, RustShared));
+    }
+}
+
 fn print_accepting(title: &str, files: [&File; 2]) {
     println!("\n{title}\nmembers{SIDES}");
     for file in files {
@@ -194,14 +205,16 @@ fn check<'a>(files: impl Iterator<Item = &'a File>) {
     let mut random = Random(1);
     let mut refused = BTreeMap::new();
     files.for_each(|file| assert!(compare_rooms(&file.bytes).is_ok()));
-    let good = METHODS.map(|method| measured(method, 20));
+    let mut good = METHODS.map(|method| measured(method, 20)).to_vec();
+    good.push(nearly_all());
     for j in 0..DRAWN + DAMAGED {
-        let case = if j < DRAWN { drawn(&mut random) } else { random.damaged(&good[j % 5]) };
+        let case = if j < DRAWN { drawn(&mut random) } else { random.damaged(&good[j % good.len()]) };
         if let Err((number, _)) = compare_rooms(&case) {
             *refused.entry(number).or_insert(0) += 1;
         }
     }
     println!("{DRAWN} drawn plans and {DAMAGED} damaged files: the same answers and bytes; refused: {refused:?}");
+    assert!([25, 28, 29].iter().all(|number| refused.contains_key(number)));
 }
 
 fn main() {
@@ -210,9 +223,10 @@ fn main() {
     let mut pairs = ["CD", "CP"].map(File::all_pairs);
     let few = |method| [0, 1, 2, 3, 4, 5, 10].map(|members| File::measured(method, members));
     let mut few: Vec<File> = ["CD", "AB"].into_iter().flat_map(few).collect();
+    let mut persons = PERSONS.map(|(_, person)| File::new("CD", MEMBERS, of_persons(person)));
     let mut out = vec![0; ROOM];
     for _ in 0..ROUNDS {
-        let files = growing.iter_mut().chain(&mut methods).chain(&mut pairs).chain(&mut few);
+        let files = growing.iter_mut().chain(&mut methods).chain(&mut pairs).chain(&mut few).chain(&mut persons);
         files.for_each(|file| file.round(&mut out));
     }
     println!("best of {ROUNDS} rounds");
@@ -222,8 +236,9 @@ fn main() {
     print_engines("1,000 members of all pairs of ages, the worst case for sharing, µs", &pairs);
     print_choice("few members, µs: `value` chooses the engine by their count", &few);
     print_accepting("accepting, µs", [&growing[0], &growing[4]]);
+    print_persons("1,000 lines by CD, whose benefits are small, µs", &persons);
     println!("\nPython's oracle\nmembers        µs   times `value`");
     growing[1..].iter().for_each(print_scale);
     println!("\nwhat differs: Rattle passes rows by value, and clears and copies arrays; Rust copies its lines");
-    check(growing.iter().chain(&methods).chain(&pairs).chain(&few));
+    check(growing.iter().chain(&methods).chain(&pairs).chain(&few).chain(&persons));
 }

@@ -14,7 +14,7 @@ enum { FILE_ROOM = 1 << 20, ROOM = 70000 };
 /* The case that was read last. */
 static uint8_t bytes[FILE_ROOM];
 static size_t length, room;
-static uint64_t plan[9], member[4];
+static uint64_t plan[9], member[5];
 static uint32_t rows[424];
 
 static int got(void *into, size_t size) {

@@ -26,6 +26,8 @@
  *     24  the salary is over 1000000.00 a year
  *     25  the benefit is over 1000000.00 a year
  *     27  a member line after 1,000 members
+ *     28  the person's number is outside its range
+ *     29  the benefits of this person's lines so far sum to over 1000000.00 a year
  *   the calling program mends:
  *     30  what is to be printed is longer than the buffer
  * 13 and 26 are retired, and never given again: 13 was for rates that sum to over 1000000, which rates for one cause alone
@@ -79,12 +81,14 @@ uint64_t kuyeshan_refusal_line(uint64_t number, uint64_t line, uint8_t *out, siz
  *             method (1 AB, 2 BD, 3 BP, 4 CD, 5 CP), assets, years
  *   rows      for each age from 15 to 120 in turn: death, withdrawal and disability in millionths, each the rate of its
  *             cause alone, and the weight
- *   member    id, entry age, age, salary in cents a year
+ *   member    id, person, entry age, age, salary in cents a year
  *   figures   in whole cents, halfway to the even cent (rule 6.1): the yearly benefit, its present value, the
  *             normal cost, the liability
- * 0, or the first refusal, from 10 on, which leaves `figures` as they were. A program that was written before `plan` had pay,
- * with eight numbers, must be changed and built again: the function's name is the same. */
-uint64_t kuyeshan_value_member(const uint64_t plan[9], const uint32_t rows[424], const uint64_t member[4],
+ * 0, or the first refusal, from 10 on, which leaves `figures` as they were. It is never 29, since a lone member has no lines
+ * before it (rule 5.5). A program that was written before `plan` had pay, with eight numbers, or before `member` had person,
+ * with four, must be changed and built again: the function's name is the same, and so is its type, since pointers are what
+ * is passed. No compiler has to notice. */
+uint64_t kuyeshan_value_member(const uint64_t plan[9], const uint32_t rows[424], const uint64_t member[5],
                                uint64_t figures[4]);
 
 #ifdef __cplusplus

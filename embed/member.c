@@ -9,8 +9,8 @@ int main(void) {
     /* 10 percent, retirement at 65, paid yearly, 100.00 of yearly benefit a year of service, method CD; assets 20.00,
      * 2 years. */
     const uint64_t plan[9] = {1000, 65, 1, 1, 10000, 0, 4, 2000, 2};
-    /* Entered at 63 and is 64; a flat plan asks for no salary. */
-    const uint64_t member[4] = {7, 63, 64, 0};
+    /* Person 1, who entered at 63 and is 64; a flat plan asks for no salary. */
+    const uint64_t member[5] = {7, 1, 63, 64, 0};
     uint32_t rows[424] = {0};
     uint64_t figures[4];
 

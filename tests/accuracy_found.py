@@ -41,7 +41,7 @@ class Shape(NamedTuple):
         return table(lambda k: (deaths.get(k, 0), 0, 0), self.weight)
 
     def member(self, salary):
-        return Member(1, self.entry, self.age, salary)
+        return Member(1, 1, self.entry, self.age, salary)
 
 
 class Found(NamedTuple):

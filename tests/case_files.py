@@ -22,7 +22,9 @@ CRATE = ROOT / 'crates' / 'test_case_answers'
 PROGRAM = ROOT / 'target' / 'bin' / 'test_case_answers'
 PRIME = 1000003
 READING = {1, 2, 3, 4, 10, 20, 27}
-ACCEPTING = READING | {11, 12, 14, 15, 21, 22, 23, 24, 25}
+ACCEPTING = READING | {11, 12, 14, 15, 21, 22, 23, 24, 25, 28, 29}
+# The refusals of one line in their order (rule 12.4).
+ON_ONE_LINE = 2, 27, 3, 4, 10, 11, 12, 14, 15, 20, 21, 28, 22, 23, 24, 25, 29
 # The last lines of the heading and of the table (rules 2.1 and 3.1).
 HEADING_END, TABLE_END = 9, 115
 
@@ -47,19 +49,21 @@ def file(head, table, members):
     return b''.join(line + b'\n' for line in head + rows(table) + members + [b'end=%d' % len(members)])
 
 
-def member(id, entry=63, age=64, salary='0.00'):
-    return f'member={id},{entry},{age},{salary}'.encode()
+def member(id, entry=63, age=64, salary='0.00', person=1):
+    return f'member={id},{person},{entry},{age},{salary}'.encode()
 
 
 def good_files():
-    """Of each formula and each pay, with no, one and some members."""
+    """Of each formula and each pay, with no, one and some members, of whom two lines that aren't neighbours are one
+    person's."""
     table = short_table()
     rising = {age: (death, 10 * age if death == 0 else 0, 0, 1000 + age) for age, (death, *_, _) in table.items()}
     return [
         file(heading(), table, [member(7)]),
         file(heading(), table, []),
         file(heading(pay='12', formula='career', unit='200', method='BP'), rising,
-             [member(1, 20, 40, '10000.00'), member(2, 64, 64, '1000000.00'), member(999999999, 15, 65, '0.01')]),
+             [member(1, 20, 40, '10000.00'), member(2, 64, 64, '1000000.00', person=999999999),
+              member(999999999, 15, 65, '0.01')]),
         file(heading(formula='final', unit='500', average='10', method='CP', interest='0', retire='75', years='40',
                      assets='999999999999.99'), rising, [member(5, 15, 15, '12345.67')]),
     ]
@@ -78,10 +82,12 @@ def ranges():
         *(file(heading(), {**level, 15: (0, 0, 0, weight)}, []) for weight in (999, 1000, 1001)),
         *(file(heading(), level, [member(id)]) for id in (0, 1, 999999999, 1000000000)),
         *(file(heading(), level, [member(7), member(id)]) for id in (6, 7, 8)),
+        *(file(heading(), level, [member(7, person=person)]) for person in (*PERSONS, *NO_PERSONS)),
         *(file(heading(), level, [member(7, entry, 64)]) for entry in (14, 15, 64, 65)),
         *(file(heading(), level, [member(7, 30, age)]) for age in (29, 30, 65, 66)),
         *(file(heading(), level, [member(7, salary=salary)]) for salary in ('1000000.00', '1000000.01')),
         *(file(final, level, [member(7, entry, 64, '1000000.00')]) for entry in (45, 44)),
+        *(file(final, level, [member(7, 45, 64, '999999.99'), member(8, 45, 64, more)]) for more in ('0.01', '0.02')),
     ]
 
 
@@ -94,7 +100,7 @@ def after_a_thousand():
     """What can stand where line 1,116 is due. Rule 12.4: 2 comes before 27, and 27 before 20."""
     full = many(1000)
     full = full[:full.rindex(b'end=')]
-    return [full + rest for rest in (b'member=junk\n', b'member=\n', b'member=1001,63,64,0.00', b'member=', b'membe',
+    return [full + rest for rest in (b'member=junk\n', b'member=\n', b'member=1001,1,63,64,0.00', b'member=', b'membe',
                                      b'x\n', b'', b'end=1000', b'end=1000\n', b'end=1001\n', b'end=x\n')]
 
 
@@ -111,6 +117,7 @@ def worked():
     yield file(heading(), level, [member(7, salary='4125.50.75')]), (20, 116), (20, 116)
     yield file(final, level, [member(7, 44, 64, '1000000.00')]), None, (25, 116)
     yield from worked_pays(level)
+    yield from worked_persons()
 
 
 def worked_pays(level):
@@ -146,6 +153,103 @@ def misplaced_pays(case):
     for size in range(start, start + len(pay) + 1):
         yield case[:size], (2, 3), (2, 3)
         yield case[:size].replace(b'retire=65', b'retire=49'), (2, 3), (11, 2)
+
+
+# ---- one person on several lines
+
+# The ends of a person's range, and numbers beyond them that a file can have.
+PERSONS = 1, 999999999
+NO_PERSONS = 0, 1000000000, 999999999999
+ONE, ANOTHER, THIRD = 7, 4103, 999999999
+# Salaries, and B(60) by them under the plan of rule 14.17: 500000.00, from 499999.995; 500000.01; 1000000.00, from
+# 1000000.005; 1000000.02, which is too much.
+HALF, OVER_HALF, FULL, OVER_FULL = '333333.33', '333333.34', '666666.67', '666666.68'
+
+
+def spells(*lines):
+    """A file of such lines by the plan of rule 14.17, where B(60) is 1.5 times the salary."""
+    return file(heading(retire='60', formula='final', unit='500', average='1'), short_table(), list(lines))
+
+
+def spell(id, person, salary, entry=30, age=40):
+    return member(id, entry, age, salary, person)
+
+
+def worked_persons():
+    yield from worked_spells()
+    yield from worked_orders()
+    yield from worked_forms()
+
+
+def worked_spells():
+    """Rules 7.10 and 14.24: the rounded B(r) of a person's lines are summed, wherever these stand."""
+    def of(*lines):
+        return spells(*(spell(id, *line) for id, line in enumerate(lines, 1)))
+
+    yield of((ONE, HALF), (ONE, HALF)), None, None
+    yield of((ONE, HALF), (ONE, OVER_HALF)), None, (29, 117)
+    # The first is 500000.02, from 500000.025: exactly, the two are over the ceiling.
+    yield of((ONE, '333333.35'), (ONE, '333333.32')), None, None
+    # Each is half a cent more than it is exactly: the six come to 1000000.02, and exactly to 999999.99.
+    yield of(*[(ONE, '111111.09')] * 5, (ONE, '111111.21')), None, (29, 121)
+    yield of((ONE, FULL), (ANOTHER, FULL)), None, None
+    # Where nothing is left for a person, a line that earns nothing is none too many.
+    yield of((ONE, FULL), (ONE, '0.00')), None, None
+    yield of((ONE, FULL), (ONE, '0.01')), None, (29, 117)
+    yield of((ONE, '0.01'), (ONE, FULL)), None, (29, 117)
+    # Lines between them, and a person before and after others.
+    yield of((ONE, HALF), (ANOTHER, FULL), (ONE, HALF)), None, None
+    yield of((ONE, HALF), (ANOTHER, FULL), (ONE, OVER_HALF)), None, (29, 118)
+    three = (ONE, HALF), (ANOTHER, HALF), (THIRD, HALF)
+    yield of(*three, *three), None, None
+    yield of(*three, *three, (ANOTHER, '0.01'), (ONE, '0.01')), None, (29, 122)
+    for place, (person, _) in enumerate(three):
+        over = *three[:place], (person, OVER_HALF), *three[place + 1:]
+        yield of(*three, *over), None, (29, 119 + place)
+        yield of(*over, *three), None, (29, 119 + place)
+
+
+def worked_orders():
+    """Rules 12.4 and 14.25: 28 comes after 21 and before 22, and 29 after 25; an earlier line before a later one."""
+    for person in NO_PERSONS:
+        yield spells(spell(1, person, HALF)), None, (28, 116)
+        yield spells(spell(1, ONE, HALF), spell(2, person, HALF)), None, (28, 117)
+    yield spells(spell(0, 0, HALF)), None, (21, 116)
+    yield spells(spell(1, 0, HALF, entry=14)), None, (28, 116)
+    yield spells(spell(1, 0, HALF, age=61)), None, (28, 116)
+    yield spells(spell(1, 0, '1000000.01')), None, (28, 116)
+    yield spells(spell(1, 0, OVER_FULL)), None, (28, 116)
+    yield spells(spell(1, ONE, OVER_FULL), spell(2, ONE, FULL)), None, (25, 116)
+    # A second line that is over the ceiling of its person, and wrong by itself; and then a third one that is.
+    first, second = spell(1, ONE, HALF), dict(id=2, person=ONE, salary=OVER_HALF)
+    wrong = {21: dict(id=1), 28: dict(person=0), 22: dict(entry=14), 23: dict(age=61), 24: dict(salary='1000000.01'),
+             25: dict(salary=OVER_FULL)}
+    for number, fields in wrong.items():
+        yield spells(first, spell(**{**second, **fields})), None, (number, 117)
+        yield spells(first, spell(**second), spell(**{**second, 'id': 3, **fields})), None, (29, 117)
+
+
+def worked_forms():
+    """The form of a person, and 29 beside faults of form: reading gives neither 28 nor 29."""
+    for line in (b'member=1,30,40,333333.33', b'member=1,7,30,40,333333.33,7', b'member=1,7,7,30,40,333333.33',
+                 b'member=1,7,30,40', b'member=1,7,30,333333.33,40'):
+        yield spells(line), (20, 116), (20, 116)
+    first, over = spell(1, ONE, HALF), spell(2, ONE, OVER_HALF)
+    for person in ('', '01', '1.00', '+1', '-1', ' 1', '1 ', '1,1', '9999999999999'):
+        yield spells(spell(1, person, HALF)), (20, 116), (20, 116)
+        yield spells(spell(0, person, HALF)), (20, 116), (20, 116)
+        yield spells(first, over, spell(3, person, HALF)), (20, 118), (29, 117)
+    case = spells(first, over)
+    yield case.replace(b'end=2', b'end=3'), (4, 118), (29, 117)
+    yield case.replace(b'end=2', b'end=02'), (20, 118), (29, 117)
+    yield case + b'more', (3, 119), (29, 117)
+    yield case[:case.index(b'end=')], (2, 118), (29, 117)
+    yield case.replace(over, over + b'5'), (20, 117), (20, 117)
+    start = case.index(over)
+    for size in range(start, start + len(over) + 1):
+        yield case[:size], (2, 117), (2, 117)
+    # 500 lines of 2000.00 each are all that a person may have, and the line over a thousand comes long after.
+    yield many(1001).replace(b'unit=10000', b'unit=100000'), (27, 1116), (29, 616)
 
 
 def filled(size):
@@ -222,16 +326,17 @@ class Fault(NamedTuple):
 
 
 def first_of(faults):
-    """The number and the line of the first, rule 12.4: by lines, and for one line 2, then 27, then the smallest."""
-    first = min(faults, key=lambda fault: (fault.line, {2: 0, 27: 1}.get(fault.number, fault.number)))
+    """The number and the line of the first, rule 12.4: by lines, and for one line in their order."""
+    first = min(faults, key=lambda fault: (fault.line, ON_ONE_LINE.index(fault.number)))
     return first.number, first.line
 
 
 def two_fault_bases():
-    """Each formula, with members that are far from every bound; the rates of a row sum to more than a million, and the
-    weights rise, so that one can fall."""
+    """Each formula, with members that are far from every bound, the first and the last of them one person; the rates of a
+    row sum to more than a million, and the weights rise, so that one can fall."""
     rising = {age: (400000, 700000, 10, 1000 + age) if age < 120 else (1000000, 0, 0, 1120) for age in AGES}
-    members = [member(10, 20, 40, '500.00'), member(20, 30, 50, '600.00'), member(30, 25, 60, '700.00')]
+    members = [member(10, 20, 40, '500.00', ONE), member(20, 30, 50, '600.00', ANOTHER),
+               member(30, 25, 60, '700.00', ONE)]
     for terms in (dict(unit='900'), dict(pay='12', formula='career', unit='500'),
                   dict(formula='final', unit='500', average='3')):
         yield file(heading(**terms), rising, members).split(b'\n')[:-1]
@@ -251,9 +356,15 @@ def range_faults(lines):
             (9, b'0', 11), (9, b'41', 11)]
     yield [Fault(line, 1, text, number) for line, text, number in head]
     yield [fault for line in range(HEADING_END + 1, TABLE_END + 1) for fault in row_range_faults(lines, line)]
-    long_service = [] if formula == b'flat' else [Fault(TABLE_END + 1, 4, b'1000000.00', 25)]
     members = [fault for line in range(TABLE_END + 1, len(lines)) for fault in member_range_faults(lines, line)]
-    yield long_service + members
+    yield too_large_benefits(formula) + members
+
+
+def too_large_benefits(formula):
+    """Of the first member; and of the last, whose own comes to 999400.00 or so and is its person's second, after more than
+    1100.00. By flat none is too large."""
+    last = {b'career': b'507150.00', b'final': b'498300.00'}.get(formula)
+    return [Fault(TABLE_END + 1, 5, b'1000000.00', 25), Fault(TABLE_END + 3, 5, last, 29)] if last else []
 
 
 def row_range_faults(lines, line):
@@ -268,10 +379,11 @@ def row_range_faults(lines, line):
 
 
 def member_range_faults(lines, line):
-    entry = int(parts_of(lines[line - 1])[2])
+    entry = int(parts_of(lines[line - 1])[3])
     before = parts_of(lines[line - 2])[1] if line > TABLE_END + 1 else b'0'
-    said = [(1, b'0', 21), (1, b'1000000000', 21), (1, before, 21), (2, b'14', 22), (2, b'65', 22), (2, b'0', 22),
-            (3, b'%d' % (entry - 1), 23), (3, b'66', 23), (4, b'1000000.01', 24), (4, b'999999999999.99', 24)]
+    said = [(1, b'0', 21), (1, b'1000000000', 21), (1, before, 21), *((2, b'%d' % person, 28) for person in NO_PERSONS),
+            (3, b'14', 22), (3, b'65', 22), (3, b'0', 22), (4, b'%d' % (entry - 1), 23), (4, b'66', 23),
+            (5, b'1000000.01', 24), (5, b'999999999999.99', 24)]
     return [Fault(line, part, text, number) for part, text, number in said]
 
 
@@ -343,8 +455,8 @@ def two_faults(count, seed=6):
     lines = many(1001).split(b'\n')[:-1]
     surplus = Fault(1116, 0, b'member', 27)
     for of_range in (Fault(2, 1, b'49', 11), Fault(3, 1, b'13', 11), Fault(115, 2, b'999999', 14),
-                     Fault(116, 1, b'0', 21), Fault(1115, 2, b'14', 22), Fault(1116, 1, b'0', 21),
-                     Fault(1116, 4, b'1000000.01', 24)):
+                     Fault(116, 1, b'0', 21), Fault(1115, 2, b'0', 28), Fault(1115, 3, b'14', 22),
+                     Fault(1116, 1, b'0', 21), Fault(1116, 2, b'0', 28), Fault(1116, 5, b'1000000.01', 24)):
         yield both_faults(lines, of_range, surplus)
     yield with_faults(lines[:200], [Fault(1, 1, b'2001', 11)]).ljust(70000, b'x'), (1, 0), (1, 0)
     for one in files.values():
@@ -392,27 +504,38 @@ def given(files):
 
 
 def stored_files():
-    cases = good_files() + [b'', many(1001)] + cut(good_files()[0])[:40]
+    persons = [case for case, _, _ in (*worked_spells(), *worked_orders())]
+    cases = good_files() + persons + [b'', many(1001)] + cut(good_files()[0])[:40]
     return {
         CRATE / 'stdin': given(cases),
         CRATE / 'stdout': ''.join(f'{line}\n' for case in cases for line in answers(case)).encode(),
     }
 
 
-def check():
-    faulty = list(two_faults(300))
-    for case, *said in (*worked(), *faulty):
+def hold_oracle(name, files):
+    """Holds the oracle to what reading and accepting must say of each."""
+    for case, *said in files:
         if [reading(case), accepting(case)] != said:
-            sys.exit(f'case_files: {case}\n{said} is due, and the oracle says {[reading(case), accepting(case)]}')
-    files = all_files() + [case for case, _, _ in faulty]
+            sys.exit(f'{name}: {case}\n{said} is due, and the oracle says {[reading(case), accepting(case)]}')
+
+
+def hold(name, files):
+    """Holds what the program writes to the oracle, and counts the numbers that reading and accepting give."""
     said = subprocess.run([PROGRAM], input=given(files), stdout=subprocess.PIPE, check=True).stdout.decode().split('\n')
     expected = [line for case in files for line in answers(case)]
     for place, (line, answer) in enumerate(zip(expected, said)):
         if line != answer:
-            sys.exit(f'case_files: {files[place // 2]}\n{line} is expected, and the program writes {answer}')
+            sys.exit(f'{name}: {files[place // 2]}\n{line} is expected, and the program writes {answer}')
     if len(said) != len(expected) + 1:
-        sys.exit('case_files: the program writes too many lines, or too few')
-    read, accepted = commands.numbers_of(expected[::2]), commands.numbers_of(expected[1::2])
+        sys.exit(f'{name}: the program writes too many lines, or too few')
+    return commands.numbers_of(expected[::2]), commands.numbers_of(expected[1::2])
+
+
+def check():
+    faulty = list(two_faults(300))
+    hold_oracle('case_files', [*worked(), *faulty])
+    files = all_files() + [case for case, _, _ in faulty]
+    read, accepted = hold('case_files', files)
     if set(read) != READING or set(accepted) != ACCEPTING:
         sys.exit(f'case_files: reading gives {sorted(read)}, accepting {sorted(accepted)}')
     print(f'case_files: {len(files)} files agree, {len(faulty)} of them with two faults; reading refuses {read.total()}, '

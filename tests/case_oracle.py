@@ -3,8 +3,10 @@
 An answer is None where the file is read, or accepted, and else the refusal's number and line (RULES section 12).
 """
 import re
+from collections import Counter
 
-from oracle import AGES, Member, Plan, refusal_of_member, refusal_of_row, refusals_of_head
+from oracle import (AGES, MOST_BENEFIT, Member, Plan, benefit, outside, refusal_of_member, refusal_of_row,
+                    refusals_of_head)
 
 MOST_BYTES = 65536
 MOST_MEMBERS = 1000
@@ -17,7 +19,7 @@ HEADING = [
     (b'years=', WHOLE),
 ]
 ROW = rb'row=' + rb','.join([WHOLE] * 5)
-MEMBER = rb'member=' + rb','.join([WHOLE] * 3 + [AMOUNT])
+MEMBER = rb'member=' + rb','.join([WHOLE] * 4 + [AMOUNT])
 
 
 class Refused(Exception):
@@ -70,7 +72,7 @@ def table(lines, ranges):
 
 
 def members(lines, plan, rows, ranges):
-    found, id_before = [], 0
+    found, id_before, benefits = [], 0, Counter()
     while True:
         line = lines.next()
         if line.startswith(b'member='):
@@ -79,10 +81,13 @@ def members(lines, plan, rows, ranges):
             form = re.fullmatch(MEMBER, line)
             if not form:
                 lines.refuse(20)
-            id, entry, age, dollars, cents = map(int, form.groups())
-            member = Member(id, entry, age, 100 * dollars + cents)
+            id, person, entry, age, dollars, cents = map(int, form.groups())
+            member = Member(id, person, entry, age, 100 * dollars + cents)
             if ranges:
                 lines.refuse(refusal_of_member(plan, rows, member, id_before))
+                # Rule 7.10: what this person's lines come to, each B(r) in whole cents.
+                benefits[person] += benefit(plan, rows, member, plan.retire)
+                lines.refuse(outside(benefits[person], 0, MOST_BENEFIT, 29))
             found.append(member)
             id_before = member.id
             continue

@@ -20,7 +20,7 @@ import tempfile
 from itertools import zip_longest
 from pathlib import Path
 
-from case_files import ACCEPTING, filled, many
+from case_files import ACCEPTING, HALF, OVER_HALF, filled, many, spell, spells
 from value_oracle import lines
 
 ROOT = Path(__file__).resolve().parent.parent
@@ -40,8 +40,8 @@ NOBODY = 65534
 
 GOOD = (EXAMPLES / 'short.case').read_bytes()
 GOOD_LINES = (EXAMPLES / 'short.lines').read_bytes()
-BAD = GOOD.replace(b'member=7,63,64,0.00', b'member=7,63,64,4125.50.75')
-BAD_SAID = (':116: refused 20, neither a member nor an end line, or its form is wrong: "member=7,63,64,4125.50.75" '
+BAD = GOOD.replace(b'member=7,1,63,64,0.00', b'member=7,1,63,64,4125.50.75')
+BAD_SAID = (':116: refused 20, neither a member nor an end line, or its form is wrong: "member=7,1,63,64,4125.50.75" '
             '(the payroll office mends it)\n')
 held, left_out = [], []
 
@@ -135,13 +135,17 @@ def faults():
     yield 14, 115, ACTUARY, edited(l115='row=120,999999,0,0,1100')
     yield 15, 10, ACTUARY, edited(l10='row=15,0,0,0,999')
     yield 20, 116, PAYROLL, BAD
+    yield 20, 116, PAYROLL, edited(l116='member=7,63,64,0.00')
     yield 20, 117, PAYROLL, edited(l117='end=01')
-    yield 21, 116, PAYROLL, edited(l116='member=0,63,64,0.00')
-    yield 22, 116, PAYROLL, edited(l116='member=7,65,65,0.00')
-    yield 23, 116, PAYROLL, edited(l116='member=7,63,66,0.00')
-    yield 24, 116, PAYROLL, edited(l116='member=7,63,64,1000000.01')
-    yield 25, 116, PAYROLL, edited(l4='formula=final', l5='unit=500', l6='average=1', l116='member=7,15,64,1000000.00')
+    yield 21, 116, PAYROLL, edited(l116='member=0,1,63,64,0.00')
+    yield 22, 116, PAYROLL, edited(l116='member=7,1,65,65,0.00')
+    yield 23, 116, PAYROLL, edited(l116='member=7,1,63,66,0.00')
+    yield 24, 116, PAYROLL, edited(l116='member=7,1,63,64,1000000.01')
+    yield 25, 116, PAYROLL, edited(l4='formula=final', l5='unit=500', l6='average=1', l116='member=7,1,15,64,1000000.00')
     yield 27, 1116, PAYROLL, many(1001)
+    yield 28, 116, PAYROLL, edited(l116='member=7,0,63,64,0.00')
+    yield 28, 116, PAYROLL, edited(l116='member=7,1000000000,63,64,0.00')
+    yield 29, 117, PAYROLL, spells(spell(7, 1, HALF), spell(8, 1, OVER_HALF))
 
 
 def quoted(case, line):
@@ -181,7 +185,7 @@ def check_hints(table):
             ('CR alone', GOOD.replace(b'\n', b'\r'), 2, 1,
              '"' + GOOD[:80].decode().replace('\n', r'\r') + f'".. of {len(GOOD)} bytes', CR),
             ('CR LF after a row', edited(l10='row=15,0,0,0,1000\r'), 10, 10, r'"row=15,0,0,0,1000\r"', CR),
-            ('CR LF after a member', edited(l116='member=7,63,64,0.00\r'), 20, 116, r'"member=7,63,64,0.00\r"', CR),
+            ('CR LF after a member', edited(l116='member=7,1,63,64,0.00\r'), 20, 116, r'"member=7,1,63,64,0.00\r"', CR),
             ('CR LF at the end', edited(l117='end=1\r'), 20, 117, r'"end=1\r"', CR),
             ('a byte-order mark', UTF8 + GOOD, 10, 1, rf'"\xef\xbb\xbf{first}"', MARK),
             ('both', UTF8 + ended, 10, 1, rf'"\xef\xbb\xbf{first}\r"', f'{CR}; {MARK}'),
@@ -212,7 +216,7 @@ def check_quotes():
     for text, shown in ((b'\x1b[31m\x00\xff\x7f\t', r'"\x1b[31m\x00\xff\x7f\t"'), (b'say "\\n"', r'"say \"\\n\""'),
                         (b'm' * 80, '"' + 'm' * 80 + '"'), (b'm' * 81, '"' + 'm' * 80 + '".. of 81 bytes'),
                         (b'm' * 60000, '"' + 'm' * 80 + '".. of 60000 bytes')):
-        case = GOOD.replace(b'member=7,63,64,0.00', text)
+        case = GOOD.replace(b'member=7,1,63,64,0.00', text)
         hold(f'the line {shown}', run(stdin=case), 1, b'refused=20,116\n', f'{begins}{shown} ({PAYROLL} mends it)\n')
 
 

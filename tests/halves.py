@@ -131,7 +131,7 @@ def drawn(rng, place, pay):
         method=FIGURES[place][1] if place in FIGURES else rng.choice(METHODS),
         assets=0,
         years=rng.randint(2, 40))
-    member = Member(1, y, x, rng.randint(1, MOST_SALARY) if formula != FLAT else 0)
+    member = Member(1, 1, y, x, rng.randint(1, MOST_SALARY) if formula != FLAT else 0)
     return Found(place, plan, member, death=rng.choice(DEATHS), jump=rng.choice([1, 1, 2, 3, 5]))
 
 

@@ -42,10 +42,12 @@ def of_farthest():
 
 
 def once_and_twice(plan, rows, members):
-    """The file; and, where it has a member, one with the same twice: kuyeshan_value takes the shared engine for it."""
+    """The file; and, where it has a member, one with the same twice, as two persons: kuyeshan_value takes the shared engine
+    for it."""
     yield value_files.case_file(plan, rows, members)
     if members:
-        yield value_files.case_file(plan, rows, members + [members[0]._replace(id=members[0].id + 1)])
+        again = members[0]._replace(id=members[0].id + 1, person=members[0].person + 1)
+        yield value_files.case_file(plan, rows, [*members, again])
 
 
 def files_of(plans):

@@ -23,15 +23,15 @@ from accuracy_found import TARGETS, named
 from accuracy_search import largest_salary
 from annuity_factors import any_rates, one_takes_all
 from oracle import (AB, AGES, CAREER, CD, CP, FIGURES, FINAL, FIRST, FLAT, FORMULAS, LAST, LIMIT, METHOD_NAMES, METHODS,
-                    MILLION, MONTHLY, MOST_ASSETS, MOST_BENEFIT, MOST_SALARY, NO_PAYS, PAYS, S, YEARLY, Factors, Member,
-                    Plan, benefit, exact_benefit, exact_costs, nearest, refusal, refusal_of_plan, rounded_costs,
-                    sharp_limit, short_table, stray, table)
+                    MILLION, MONTHLY, MOST_ASSETS, MOST_BENEFIT, MOST_NUMBER, MOST_SALARY, NO_PAYS, PAYS, S, YEARLY,
+                    Factors, Member, Plan, benefit, exact_benefit, exact_costs, nearest, refusal, refusal_of_plan,
+                    rounded_costs, sharp_limit, short_table, stray, table)
 
 ROOT = Path(__file__).parent.parent
 CRATE = ROOT / 'crates' / 'test_member_figures'
 PROGRAM = ROOT / 'target' / 'bin' / 'test_member_figures'
 OF_PLAN = {10, 11, 12, 14, 15}
-REFUSALS = OF_PLAN | {21, 22, 23, 24, 25}
+REFUSALS = OF_PLAN | {21, 22, 23, 24, 25, 28}
 
 
 class Case(NamedTuple):
@@ -41,7 +41,7 @@ class Case(NamedTuple):
 
     def bytes(self):
         rows = b''.join(struct.pack('<4I', *self.rows[k]) for k in AGES)
-        return struct.pack('<9Q', *self.plan) + rows + struct.pack('<4Q', *self.member)
+        return struct.pack('<9Q', *self.plan) + rows + struct.pack('<5Q', *self.member)
 
     def figures(self):
         return rounded_costs(*self).figures(self.plan.method, self.member.age)
@@ -77,19 +77,20 @@ def worked():
     plan = Plan(1000, 65, YEARLY, FLAT, 10000, 0, CD, 2000, 2)
     for pay, (at_64, at_63, said, cost_of_cp) in SHORT_CASE.items():
         for method, name in METHOD_NAMES.items():
-            case = Case(plan._replace(pay=pay, method=method), short_table(), Member(7, 63, 64, 0))
+            case = Case(plan._replace(pay=pay, method=method), short_table(), Member(7, 1, 63, 64, 0))
             cost, liability = said[name]
             yield case, dict(benefit='200.00', value=at_64, cost=cost, liability=liability)
             cost = dict(cost=cost_of_cp) if method == CP else {}
-            yield case._replace(member=Member(7, 63, 63, 0)), dict(value=at_63, liability='0.00', **cost)
+            yield case._replace(member=Member(7, 1, 63, 63, 0)), dict(value=at_63, liability='0.00', **cost)
     yield from worked_benefits(plan)
     yield from worked_level()
     yield from worked_bounds(plan)
     yield from worked_pays(plan)
+    yield from worked_persons(plan)
 
 
 def worked_benefits(plan):
-    career = Case(plan._replace(formula=CAREER, unit=200), short_table(), Member(7, 63, 64, dollars('10000.00')))
+    career = Case(plan._replace(formula=CAREER, unit=200), short_table(), Member(7, 1, 63, 64, dollars('10000.00')))
     yield career, dict(benefit='381.82')
     final = plan._replace(formula=FINAL, unit=200, average=2)
     yield career._replace(plan=final), dict(benefit='381.82')
@@ -105,30 +106,49 @@ def level_table():
 
 def worked_level():
     for method in METHODS:
-        case = Case(Plan(0, 65, YEARLY, FLAT, 10000, 0, method, 0, 1), level_table(), Member(1, 35, 45, 0))
+        case = Case(Plan(0, 65, YEARLY, FLAT, 10000, 0, method, 0, 1), level_table(), Member(1, 1, 35, 45, 0))
         yield case, dict(value='168000.00', cost='5600.00', liability='56000.00')
 
 
 def worked_bounds(plan):
     for retire, number in ((49, 11), (50, 0), (75, 0), (76, 11)):
-        yield Case(plan._replace(retire=retire), level_table(), Member(7, 40, 45, 0)), number or {}
+        yield Case(plan._replace(retire=retire), level_table(), Member(7, 1, 40, 45, 0)), number or {}
     for retire, answer in ((65, dict(benefit='50000.00', value='13363.59')), (64, dict(benefit='49000.00', value='75727.27'))):
         crowded = {**short_table(), 64: (400000, 300000, 300001, 1100)}
-        yield Case(plan._replace(retire=retire, unit=100000), crowded, Member(7, FIRST, 64, 0)), answer
-    yield Case(plan, {**short_table(), FIRST: (0, 0, 0, 999)}, Member(7, 63, 64, 0)), 15
+        yield Case(plan._replace(retire=retire, unit=100000), crowded, Member(7, 1, FIRST, 64, 0)), answer
+    yield Case(plan, {**short_table(), FIRST: (0, 0, 0, 999)}, Member(7, 1, 63, 64, 0)), 15
     for service, answer in ((20, dict(benefit='1000000.00')), (21, 25)):
         final = plan._replace(formula=FINAL, unit=500, average=1)
-        yield Case(final, level_table(), Member(7, 65 - service, 60, MOST_SALARY)), answer
+        yield Case(final, level_table(), Member(7, 1, 65 - service, 60, MOST_SALARY)), answer
     for salary, answer in (('666666.67', dict(benefit='1000000.00')), ('666666.68', 25)):
         final = plan._replace(retire=60, formula=FINAL, unit=500, average=1)
-        yield Case(final, short_table(), Member(7, 30, 40, dollars(salary))), answer
+        yield Case(final, short_table(), Member(7, 1, 30, 40, dollars(salary))), answer
 
 
 def worked_pays(plan):
     """Rules 2.10 and 14.23: a wrong pay, alone and before a wrong formula."""
     for pay in NO_PAYS:
         for others in (dict(), dict(formula=4)):
-            yield Case(plan._replace(pay=pay, **others), short_table(), Member(7, 63, 64, 0)), 11
+            yield Case(plan._replace(pay=pay, **others), short_table(), Member(7, 1, 63, 64, 0)), 11
+
+
+def worked_persons(plan):
+    """Rules 4.7, 5.5, 12.4 and 14.25: a person's number at its bounds and beyond them, alone and beside other faults: 28
+    comes after 21 and before 22. A lone member may have all that a person may."""
+    final = plan._replace(retire=60, formula=FINAL, unit=500, average=1)
+    case = Case(final, short_table(), Member(7, 1, 30, 40, dollars('666666.67')))
+
+    def of(**fields):
+        return case._replace(member=case.member._replace(**fields))
+
+    for person in (1, 999999999):
+        yield of(person=person), dict(benefit='1000000.00')
+        yield of(person=person, salary=dollars('666666.68')), 25
+    for person in (0, 1000000000, 2**32 + 1, 2**64 - 1):
+        yield of(person=person), 28
+        yield of(id=0, person=person), 21
+        for other in (dict(entry=14), dict(age=61), dict(salary=MOST_SALARY + 1), dict(salary=dollars('666666.68'))):
+            yield of(person=person, **other), 28
 
 
 def check_worked():
@@ -145,9 +165,14 @@ def check_worked():
 
 
 def check_worked_parts():
-    """What is worked by hand beside the figures of a member: rules 14.3, 14.4, 14.7, 14.17, 14.19, 14.20 and 14.22."""
+    """What is worked by hand beside the figures of a member: rules 14.3, 14.4, 14.7, 14.17, 14.19, 14.20, 14.22 and
+    14.24."""
     (plan, rows, member), _ = next(worked())
-    ceiling = plan._replace(retire=60, formula=FINAL, unit=500, average=1), rows, Member(7, 30, 40, dollars('666666.67'))
+
+    def before_rounding(salary):
+        final = plan._replace(retire=60, formula=FINAL, unit=500, average=1)
+        return exact_benefit(final, rows, Member(7, 1, 30, 40, dollars(salary)), 60)
+
     final = plan._replace(formula=FINAL, unit=200, average=2), rows, member._replace(salary=dollars('10000.00'))
     factors, costs = Factors(plan, rows, nearest), rounded_costs(plan, rows, member)
     monthly_plan = plan._replace(pay=MONTHLY)
@@ -164,7 +189,9 @@ def check_worked_parts():
         'N of CP at 63 before rounding': (Fraction(costs.V(63) * 1000 * S, factors.Z(65)[63]), Fraction('8264.5')),
         'B(64)': (benefit(*final, 64), dollars('181.82')),
         'B(65)': (benefit(*final, 65), dollars('381.82')),
-        'B(60) before rounding': (exact_benefit(*ceiling, 60), Fraction('100000000.5')),
+        'B(60) before rounding': (before_rounding('666666.67'), Fraction('100000000.5')),
+        'B(60) of a spell before rounding': (before_rounding('333333.33'), Fraction('49999999.5')),
+        'B(60) of another spell before rounding': (before_rounding('333333.35'), Fraction('50000002.5')),
         'P(64) of a crowded row': (staying(plan, 64, (400000, 300000, 300001)), 293999),
         'P(65) of a crowded row': (staying(plan, 65, (400000, 300000, 300001)), 600000),
         'P(64) of a row with two halves': (staying(plan, 64, (1000, 1000, 500)), 997502),
@@ -229,11 +256,16 @@ def drawn_plan(rng):
         years=rng.randint(1, 40))
 
 
+def drawn_number(rng):
+    """An id or a person."""
+    return rng.choice([1, MOST_NUMBER, rng.randint(1, MOST_NUMBER)])
+
+
 def drawn_member(rng, plan, rows):
     r = plan.retire
     y = rng.choice([FIRST, r - 1, *rng.choices(range(FIRST, r), k=6)])
     x = rng.choice([y, r, *rng.choices(range(y, r), k=6)])
-    member = Member(rng.choice([1, 999999999, rng.randint(1, 999999999)]), y, x, 1)
+    member = Member(drawn_number(rng), drawn_number(rng), y, x, 1)
     largest = largest_salary(plan, rows, member)
     over = min(largest + 1, MOST_SALARY)
     salaries = [largest, largest, over, rng.randint(0, largest), rng.randint(0, MOST_SALARY)]
@@ -309,7 +341,7 @@ def rows_at_edges(rows, k):
 
 def member_edges(case):
     r, y = case.plan.retire, case.member.entry
-    ranges = dict(id=(1, 999999999), entry=(FIRST, r - 1), age=(y, r), salary=(0, MOST_SALARY))
+    ranges = dict(id=(1, MOST_NUMBER), person=(1, MOST_NUMBER), entry=(FIRST, r - 1), age=(y, r), salary=(0, MOST_SALARY))
     return [Change(member={field: value}) for field, of in ranges.items() for value in edges(*of, 2**64 - 1)]
 
 
@@ -362,7 +394,7 @@ def at_largest_benefit():
                                     (33, 60606061, 6.5), (24, 83333334, 8)):
         for method in METHODS:
             plan = Plan(0, 50, YEARLY, FINAL, 500, 1, method, 0, 1)
-            case = Case(plan, level_table(), Member(1, 50 - service, 40, salary))
+            case = Case(plan, level_table(), Member(1, 1, 50 - service, 40, salary))
             assert 10 * (exact_benefit(*case, 50) - MOST_BENEFIT) == tenths
             yield case
 
@@ -376,7 +408,7 @@ def extreme_cases():
                 for y in (FIRST, r - 1):
                     for x in sorted({y, y + 1, r - 1, r}):
                         plan = Plan(0, r, pay, FINAL, 500, 1, method, MOST_ASSETS, 40)
-                        member = Member(1, y, x, 0)
+                        member = Member(1, 1, y, x, 0)
                         yield Case(plan, rows, member._replace(salary=largest_salary(plan, rows, member)))
 
 
@@ -387,7 +419,7 @@ def at_ends():
         plan = Plan(i, r, pay, CAREER, 500, 0, method, 0, 40)
         for last in (LAST, r):
             rows = table(lambda k: (1000, 2000, 3000) if k < last else (MILLION, 0, 0), lambda k: 1000 + 10 * k)
-            member = Member(1, 30, 40, 0)
+            member = Member(1, 1, 30, 40, 0)
             yield Case(plan, rows, member._replace(salary=largest_salary(plan, rows, member)))
 
 

@@ -16,6 +16,7 @@ S = 1000000000
 MOST_ASSETS = 99999999999999  # 999999999999.99
 MOST_SALARY = 100000000  # 1000000.00
 MOST_BENEFIT = 100000000  # 1000000.00
+MOST_NUMBER = 999999999  # of an id and of a person
 
 # How many times a year a pension is paid, and the numbers next to these.
 PAYS = YEARLY, MONTHLY = 1, 12
@@ -39,6 +40,7 @@ class Plan(NamedTuple):
 
 class Member(NamedTuple):
     id: int
+    person: int
     entry: int
     age: int
     salary: int
@@ -116,8 +118,10 @@ def refusal_of_plan(plan, rows):
 
 
 def refusals_of_member(plan, rows, member, id_before):
-    """Rules 4.2 to 4.5 and 7.8, under an accepted plan. The benefit is worked only where the others are 0."""
-    yield outside(member.id, id_before + 1, 999999999, 21)
+    """Rules 4.2, 4.7, 4.3 to 4.5 and 7.8, in the order of rule 12.4, under an accepted plan. The benefit is worked only
+    where the others are 0. Rule 7.10 is for all lines of a person, and so it isn't here."""
+    yield outside(member.id, id_before + 1, MOST_NUMBER, 21)
+    yield outside(member.person, 1, MOST_NUMBER, 28)
     yield outside(member.entry, FIRST, plan.retire - 1, 22)
     yield outside(member.age, member.entry, plan.retire, 23)
     yield outside(member.salary, 0, MOST_SALARY, 24)
@@ -125,7 +129,7 @@ def refusals_of_member(plan, rows, member, id_before):
 
 
 def refusal_of_member(plan, rows, member, id_before=0):
-    """Rule 5.5: nobody stands before a lone member, and 0 is the id of nobody."""
+    """Rule 5.5: nobody stands before a lone member, and 0 is the id of nobody. Its benefit is all that its person has."""
     return first(refusals_of_member(plan, rows, member, id_before))
 
 

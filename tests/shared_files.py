@@ -74,10 +74,10 @@ def few(rng, r):
 # ---- files
 
 def file_of(rng, plan, rates, weights, ages):
-    """Salaries are near the largest, for each figure to be large."""
+    """Salaries are near the largest, for each figure to be large; so each member is another person."""
     rows, members = table(rates, weights), []
     for id, (y, x) in enumerate(ages, 1):
-        member = Member(id, y, x, 1)
+        member = Member(id, id, y, x, 1)
         largest = largest_salary(plan, rows, member)
         members.append(member._replace(salary=rng.randint(largest // 2, largest)))
     return File(plan, rows, members)

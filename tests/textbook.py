@@ -56,14 +56,16 @@ def model_rows():
 
 
 def one_career():
-    """One person at each age: dollars of pay are ten times the weights, so that the benefit is the same at all."""
-    return [Member(age, ENTRY, age, 1000 * model_weight(age)) for age in range(ENTRY, RETIRE + 1)]
+    """One career at each age: dollars of pay are ten times the weights, so that the benefit is the same at all. Each age is
+    a person of its own here, since all of them together are over a person's ceiling."""
+    return [Member(age, age, ENTRY, age, 1000 * model_weight(age)) for age in range(ENTRY, RETIRE + 1)]
 
 
 def example():
     """Six who entered at 30, with the assets of a plan that is three quarters funded or so."""
     pay = {31: '28400.00', 36: '36250.00', 43: '52800.50', 50: '61975.25', 58: '88000.00', 64: '104310.75'}
-    members = [Member(100 + place, ENTRY, age, dollars(salary)) for place, (age, salary) in enumerate(pay.items(), 1)]
+    members = [Member(100 + place, place, ENTRY, age, dollars(salary))
+               for place, (age, salary) in enumerate(pay.items(), 1)]
     return case_file(MODEL._replace(assets=dollars('450000.00')), model_rows(), members)
 
 
@@ -138,7 +140,7 @@ def career_cells(valued, rows):
 
 def at_retirement(valued, plan, rows):
     """V over B(r) of one who retires now: G(r)."""
-    said = valued(case_file(plan, rows, [Member(1, ENTRY, plan.retire, dollars('500000.00'))]))
+    said = valued(case_file(plan, rows, [Member(1, 1, ENTRY, plan.retire, dollars('500000.00'))]))
     benefit, value, *_ = map(dollars, said.decode().split('\n')[0].split(',')[1:])
     return Fraction(value, benefit)
 

@@ -3,27 +3,29 @@
     python3 tests/value_files.py --check [--files N] [--seed K]
 
 The program is run once for each file: those worked by hand (RULES section 14), those at a bound, damaged ones, those
-with two faults, and N drawn ones. What it prints as supplemental is also held to its limit (rule 11.4), and a member's
-line must not hang on the other members (rule 11.5). tests/library_answers.py gives the same files to the library.
+with two faults, those with a person on several lines, and N drawn ones. What it prints as supplemental is also held to
+its limit (rule 11.4), and a member's line must not hang on the other members (rule 11.5). tests/library_answers.py gives
+the same files to the library.
 """
 import argparse
 import random
 import re
 import subprocess
 import sys
-from collections import Counter
+from collections import Counter, defaultdict
 from itertools import zip_longest
 from pathlib import Path
 
 import case_oracle
 import commands
+import persons
 from accuracy_search import largest_salary
-from case_files import (ACCEPTING, cut, damaged, file, filled, good_files, heading, many, member, ranges, stray_bytes,
-                        two_faults)
-from member_figures import (SHORT_CASE, at_ends, at_largest_benefit, dollars, drawn_member, drawn_plan, drawn_rates,
-                            drawn_weights, extreme_cases, level_table, straying_cases)
-from oracle import (BD, FINAL, METHOD_NAMES, MOST_ASSETS, MOST_SALARY, NO_PAYS, PAYS, YEARLY, Member, Plan, short_table,
-                    table)
+from case_files import (ACCEPTING, FULL, HALF, OVER_HALF, cut, damaged, file, filled, good_files, heading, many, member,
+                        ranges, spell, spells, stray_bytes, two_faults, worked_persons)
+from member_figures import (SHORT_CASE, at_ends, at_largest_benefit, dollars, drawn_member, drawn_number, drawn_plan,
+                            drawn_rates, drawn_weights, extreme_cases, level_table, straying_cases)
+from oracle import (BD, FINAL, METHOD_NAMES, MOST_ASSETS, MOST_BENEFIT, MOST_NUMBER, MOST_SALARY, NO_PAYS, PAYS, YEARLY,
+                    Member, Plan, benefit, short_table, table)
 from value_oracle import amount, exact_supplemental, lines, supplemental_limit, valued
 
 ROOT = Path(__file__).parent.parent
@@ -41,7 +43,8 @@ def case_file(plan, rows, members):
     """The case file of plain values."""
     named = plan._replace(formula=FORMULA_NAMES[plan.formula], method=METHOD_NAMES[plan.method],
                           assets=amount(plan.assets))
-    return file(heading(**named._asdict()), rows, [member(m.id, m.entry, m.age, amount(m.salary)) for m in members])
+    lines = [member(m.id, m.entry, m.age, amount(m.salary), m.person) for m in members]
+    return file(heading(**named._asdict()), rows, lines)
 
 
 def answer(case):
@@ -69,6 +72,7 @@ def worked():
     yield from worked_methods(short, level)
     yield from worked_benefits(short)
     yield from worked_bounds(short, level)
+    yield from worked_spells()
 
 
 def worked_methods(short, level):
@@ -111,6 +115,18 @@ def worked_bounds(short, level):
         yield f'salary {salary}, 30 years', file(final, short, [member(7, 30, 40, salary)]), said
 
 
+def worked_spells():
+    """Rule 14.24: of each line its own benefit is printed, with its id and without its person."""
+    for salaries, benefits in (((HALF, HALF), ('500000.00', '500000.00')),
+                               (('333333.35', '333333.32'), ('500000.02', '499999.98'))):
+        said = ''.join(f'member={id},{benefit},*,*,*\n' for id, benefit in enumerate(benefits, 7))
+        case = spells(*(spell(id, 1, salary) for id, salary in enumerate(salaries, 7)))
+        yield f'two spells, {benefits}', case, said.encode()
+    yield 'two spells, a cent too much', spells(spell(7, 1, HALF), spell(8, 1, OVER_HALF)), b'refused=29,117\n'
+    yield 'two persons', spells(spell(7, 1, FULL), spell(8, 2, FULL)), (
+        b'member=7,1000000.00,*,*,*\nmember=8,1000000.00,*,*,*\n')
+
+
 def check_worked():
     """The oracle prints what is worked by hand, and what is stored beside the examples."""
     for name, case, said in worked():
@@ -144,9 +160,10 @@ def largest_figures():
 
 
 def longest():
-    """Each line as long as it can be: pay rises a hundredfold before retirement, nobody leaves before 120."""
+    """Each line as long as it can be: pay rises a hundredfold before retirement, nobody leaves before 120, and each member
+    is another person."""
     rows = table(lambda k: (0, 0, 0), lambda k: 1000 if k < 49 else 100000)
-    members = [Member(id, 46, 48, dollars('50000.00')) for id in range(999999000, 1000000000)]
+    members = [Member(id, id, 46, 48, dollars('50000.00')) for id in range(999999000, 1000000000)]
     case = case_file(Plan(0, 50, YEARLY, FINAL, 500, 1, BD, MOST_ASSETS, 1), rows, members)
     assert len(lines(case)) == LONGEST and lines(case, LONGEST - 1) == b'refused=30,0\n'
     return case
@@ -188,13 +205,25 @@ def drawn_rows(rng):
     return rows
 
 
+def drawn_person(rng, earlier):
+    """Every third time one of the earlier ones, where there are any."""
+    return rng.choice(earlier) if earlier and rng.randrange(3) == 0 else rng.randint(1, MOST_NUMBER)
+
+
 def drawn_members(rng, plan, rows, count):
-    """Accepted ones: the salary is the largest where it would be over it."""
-    for id in sorted(rng.sample(range(1, 1000000000), count)):
+    """Accepted ones, some of them further lines of a person: the salary is the largest where it would be over it, by what
+    is left for the person."""
+    left = defaultdict(lambda: MOST_BENEFIT)
+    for id in sorted(rng.sample(range(1, MOST_NUMBER + 1), count)):
         drawn = drawn_member(rng, plan, rows)
         age = rng.choice([drawn.age, drawn.age, drawn.age, plan.retire - 1])
-        drawn = drawn._replace(id=id, age=age)
-        yield drawn._replace(salary=min(drawn.salary, largest_salary(plan, rows, drawn)))
+        # By flat no salary makes the benefit less.
+        least = benefit(plan, rows, drawn._replace(age=age, salary=0), plan.retire)
+        person = drawn_person(rng, [one for one, cents in left.items() if cents >= least])
+        drawn = drawn._replace(id=id, person=person, age=age)
+        drawn = drawn._replace(salary=min(drawn.salary, largest_salary(plan, rows, drawn, left[person])))
+        left[person] -= benefit(plan, rows, drawn, plan.retire)
+        yield drawn
 
 
 def drawn_valued(rng, count):
@@ -209,11 +238,13 @@ def drawn_file(rng, count):
     liability = valued(plan, rows, members).total('liability')
     assets = rng.choice([0, plan.assets, rng.randint(0, 2 * liability), max(0, liability + rng.randint(-9, 9))])
     plan = plan._replace(assets=assets)
-    fault = rng.choices([None, 'pay', 'member', 'byte'], [83, 2, 5, 10])[0]
+    fault = rng.choices([None, 'pay', 'member', 'persons', 'byte'], [75, 2, 5, 8, 10])[0]
     if fault == 'pay':
         plan = plan._replace(pay=rng.choice(NO_PAYS))
     if fault == 'member':
         members.append(faulty_member(rng, plan, rows))
+    if fault == 'persons':
+        members = with_few_persons(rng, members)
     case = case_file(plan, rows, members)
     return next(stray_bytes(case, rng, 1)) if fault == 'byte' else case
 
@@ -221,9 +252,16 @@ def drawn_file(rng, count):
 def faulty_member(rng, plan, rows):
     """A last member, with one field over its bound or a salary that makes the benefit too large."""
     last = drawn_member(rng, plan, rows)._replace(id=999999999)
-    faults = [dict(id=0), dict(id=1000000000), dict(entry=14), dict(entry=plan.retire), dict(age=last.entry - 1),
-              dict(age=plan.retire + 1), dict(salary=MOST_SALARY), dict(salary=MOST_SALARY + 1)]
+    faults = [dict(id=0), dict(id=1000000000), dict(person=0), dict(person=1000000000), dict(entry=14),
+              dict(entry=plan.retire), dict(age=last.entry - 1), dict(age=plan.retire + 1), dict(salary=MOST_SALARY),
+              dict(salary=MOST_SALARY + 1)]
     return last._replace(**rng.choice(faults))
+
+
+def with_few_persons(rng, members):
+    """The same as lines of one person or two, whatever these come to."""
+    persons = [drawn_number(rng) for _ in range(rng.choice([1, 2]))]
+    return [one._replace(person=rng.choice(persons)) for one in members]
 
 
 def drawn_files(rng, count):
@@ -241,6 +279,7 @@ def files(rng, count):
     yield from balanced(rng)
     yield from damaged_files(rng)
     yield from (case for case, _, _ in two_faults(200))
+    yield from (case for case, _, _ in (*worked_persons(), *persons.some(rng)))
     yield from (case_file(*drawn_valued(rng, 1000)) for _ in range(5))
     yield from drawn_files(rng, count)
 
@@ -278,16 +317,22 @@ def sign(number):
 
 
 def check_independence(rng, pairs):
-    """Rule 11.5: a member's line stays as it is when the other members change."""
+    """Rule 11.5: a member's line stays as it is when the other members change, also where its person has more lines in one
+    of two files and none in the other."""
+    several = 0
     for _ in range(pairs):
         plan, rows, members = drawn_valued(rng, 5)
         kept = rng.choice(members)
-        others = [other for other in drawn_members(rng, plan, rows, 4) if other.id != kept.id]
+        several += [member.person for member in members].count(kept.person) > 1
+        others = [other for other in drawn_members(rng, plan, rows, 4)
+                  if other.id != kept.id and other.person != kept.person]
         both = [case_file(plan, rows, sorted(group)) for group in (members, [kept, *others])]
         printed = [[line for line in answer(case).split(b'\n') if line.startswith(b'member=%d,' % kept.id)]
                    for case in both]
         if len(printed[0]) != 1 or printed[0] != printed[1]:
             differ(both[0], f'member {kept.id} is printed {printed[0]} here, and {printed[1]} among others')
+    if several < pairs // 10:
+        sys.exit(f'value_files: in only {several} of {pairs} files the person of the kept line has another one')
 
 
 def check(count, seed):

@@ -1,26 +1,27 @@
 -- What is known of a plan and of a member that no rule refuses.
-use mathlib.Core.Path.{_≡_, subst, _∙_}
-use mathlib.Core.Logic.{inl, inr, ⊎-elim}
+use mathlib.Core.Path.{_≡_, refl, sym, subst, _∙_}
+use mathlib.Core.Logic.{inl, inr, ⊎-elim, _↔_}
 use mathlib.Core.Bool.{Bool, true, false, cond, _&&_, _||_}
 use mathlib.Core.List.{List, [], _∷_}
 use Prim.Native.Nat.{ℕ, zero, suc, _+_, _≤_, _<_}
 use native.Mathlib.Nat.{eq-or-lt-of-le}
 use native.Mathlib.Omega.{arith}
-use borrow.Author.Tests.{leb-true, ltb-true, eqb-true, eq-eqb, ne-eqb}
+use borrow.Author.Tests.{leb-true, ltb-true, le-leb, eqb-true, eq-eqb, ne-eqb}
 use lib.Dec.{leb, ltb, eqb}
 use Rattle.rates.specs.Rates.{death, withdrawal, disability}
 use Rattle.rates.specs.Table.{row, weight, Sound}
 use Rattle.plan.specs.declared.Plan.{Plan}
 use Rattle.plan.specs.declared.Member.{Member}
-use Rattle.rules.specs.Rules.{firstOf, between}
+use Rattle.rules.specs.Rules.{unless, firstOf, between}
 use Rattle.rules.specs.Heading.{headRules}
 use Rattle.rules.specs.Table.{rowRules, rowOf, weightBefore, rowsRefusal}
-use Rattle.acceptance.specs.Acceptance.{planRefusal, fieldRules, benefitRules, memberRefusal, loneRefusal}
+use Rattle.acceptance.specs.declared.Benefit.the-variants.{Is, Refused}
+use Rattle.acceptance.specs.Acceptance.{planRefusal, fieldRules, benefitRules, memberRefusal, lineRefusal, loneRefusal, benefitOr}
 use Rattle.plan.specs.Benefit.{B}
 use Rattle.plan.specs.Ranges.{HeadRanges, PlanRanges, InRange, MemberRanges}
 use Rattle.plan.proofs.RiseLaws.{never-falls, climbing}
 use Rattle.acceptance.specs.Rising.{Accepted-Never-Falls}
-use Rattle.rules.proofs.RuleLaws.{all-kept, refusal-of-both, both-refusals, kept, both-true, either-true, between-true}
+use Rattle.rules.proofs.RuleLaws.{first-refuses, first-passes, first-alone, all-kept, kept-all, refusal-of-both, both-refusals, kept, both-true, either-true, between-true}
 use Rattle.rules.proofs.TableLaws.{weight-passed}
 
 -- ---- the heading
@@ -113,14 +114,14 @@ pub range-facts : (p : Plan) (before : ℕ) (m : Member) → firstOf (fieldRules
 unfolding fieldRules
 range-facts p before m e =
     let k = all-kept (fieldRules p before m) e in
-    let entry = both-true (leb 15 (m .entry)) (ltb (m .entry) (p .retire)) (kept (leb 15 (m .entry) && ltb (m .entry) (p .retire)) 21 (k .1 .0)) in
-    let age = between-true (m .entry) (p .retire) (m .age) (kept (between (m .entry) (p .retire) (m .age)) 22 (k .1 .1 .0)) in
+    let entry = both-true (leb 15 (m .entry)) (ltb (m .entry) (p .retire)) (kept (leb 15 (m .entry) && ltb (m .entry) (p .retire)) 21 (k .1 .1 .0)) in
+    let age = between-true (m .entry) (p .retire) (m .age) (kept (between (m .entry) (p .retire) (m .age)) 22 (k .1 .1 .1 .0)) in
     record {
       grown = leb-true _ _ (entry .0);
       enters = ltb-true _ _ (entry .1);
       past-entry = age .0;
       not-past = age .1;
-      paid = leb-true _ _ (kept (leb (m .salary) 100000000) 23 (k .1 .1 .1 .0));
+      paid = leb-true _ _ (kept (leb (m .salary) 100000000) 23 (k .1 .1 .1 .1 .0));
     }
 
 -- rule 4.2: nine digits at most; an id is no part of the ranges, since no figure rests on it
@@ -130,23 +131,77 @@ id-small p rows before m e =
     let k = all-kept (fieldRules p before m) (both-refusals (fieldRules p before m) (benefitRules p rows m) e .0) in
     between-true 1 999999999 (m .id) (both-true (between 1 999999999 (m .id)) (ltb before (m .id)) (kept (between 1 999999999 (m .id) && ltb before (m .id)) 20 (k .0)) .0) .1
 
-pub member-facts : (p : Plan) (rows : List (List ℕ)) (before : ℕ) (m : Member) → planRefusal p rows ≡ 0 → memberRefusal p rows before m ≡ 0 → MemberRanges p rows m
+-- rule 4.7
+pub person-range : (p : Plan) (rows : List (List ℕ)) (before : ℕ) (m : Member) → memberRefusal p rows before m ≡ 0 → (1 ≤ m .person) × (m .person ≤ 999999999)
+unfolding memberRefusal fieldRules
+person-range p rows before m e =
+    let k = all-kept (fieldRules p before m) (both-refusals (fieldRules p before m) (benefitRules p rows m) e .0) in
+    between-true 1 999999999 (m .person) (kept (between 1 999999999 (m .person)) 27 (k .1 .0))
+
+-- rule 7.8
+pub own-capped : (p : Plan) (rows : List (List ℕ)) (before : ℕ) (m : Member) → memberRefusal p rows before m ≡ 0 → leb (B p rows m (p .retire)) 100000000 ≡ true
 unfolding memberRefusal benefitRules
+own-capped p rows before m e =
+    let k = all-kept (benefitRules p rows m) (both-refusals (fieldRules p before m) (benefitRules p rows m) e .1) in
+    kept (leb (B p rows m (p .retire)) 100000000) 24 (k .0)
+
+pub member-facts : (p : Plan) (rows : List (List ℕ)) (before : ℕ) (m : Member) → planRefusal p rows ≡ 0 → memberRefusal p rows before m ≡ 0 → MemberRanges p rows m
+unfolding memberRefusal
 member-facts p rows before m plan e =
-    let halves = both-refusals (fieldRules p before m) (benefitRules p rows m) e in
-    let k = all-kept (benefitRules p rows m) (halves .1) in
     record {
       plan = plan-facts p rows plan;
-      in-range = range-facts p before m (halves .0);
-      capped = leb-true _ _ (kept (leb (B p rows m (p .retire)) 100000000) 24 (k .0));
+      in-range = range-facts p before m (both-refusals (fieldRules p before m) (benefitRules p rows m) e .0);
+      capped = leb-true _ _ (own-capped p rows before m e);
     }
+
+-- ---- a member's benefit, or its own refusal
+module _ (number benefit : ℕ) where
+  pub benefit-refused : {n : ℕ} → n ≡ number → (n ≡ 0 → ⊥) → Refused n ≡ benefitOr number benefit
+  benefit-refused {n} e some = rw (← e) (simp (ne-eqb n 0 some))
+
+  pub benefit-is : {b : ℕ} → number ≡ 0 → b ≡ benefit → Is b ≡ benefitOr number benefit
+  benefit-is none e = rw (none, e)
+
+  pub is-benefit : {b : ℕ} → Is b ≡ benefitOr number benefit → (number ≡ 0) × (b ≡ benefit)
+  is-benefit {b} = pick number refl
+    where
+      pick : (n : ℕ) → number ≡ n → Is b ≡ benefitOr n benefit → (number ≡ 0) × (b ≡ benefit)
+      pick zero same e = (same, (cc))
+      pick (suc n) same e = let z : Is b ≡ Refused (suc n) = e ∙ simp (ne-eqb (suc n) 0 (λ z. omega arith)) in let w : _≡_ {A = ℕ} 0 1 = cc in absurd (omega arith)
+
+  pub is-refused : {n : ℕ} → Refused n ≡ benefitOr number benefit → (n ≡ number) × (number ≡ 0 → ⊥)
+  is-refused {n} = pick number refl
+    where
+      pick : (k : ℕ) → number ≡ k → Refused n ≡ benefitOr k benefit → (n ≡ number) × (number ≡ 0 → ⊥)
+      pick zero same e = let w : _≡_ {A = ℕ} 0 1 = cc in absurd (omega arith)
+      pick (suc k) same e = let z : Refused n ≡ Refused (suc k) = e ∙ simp (ne-eqb (suc k) 0 (λ z. omega arith)) in let w : n ≡ suc k = cc in (w ∙ sym same, λ none. omega arith)
+
+-- ---- a member line, after the lines before it
+-- its own rules are kept, and its person's benefits are within the ceiling; and conversely
+module _ (p : Plan) (rows : List (List ℕ)) (before sum : ℕ) (m : Member) where
+  pub line-refused : (memberRefusal p rows before m ≡ 0 → ⊥) → lineRefusal p rows before sum m ≡ memberRefusal p rows before m
+  unfolding lineRefusal
+  line-refused h = first-refuses (memberRefusal p rows before m) (unless (leb (sum + B p rows m (p .retire)) 100000000) 29 ∷ []) h
+
+  pub line-summed : memberRefusal p rows before m ≡ 0 → lineRefusal p rows before sum m ≡ unless (leb (sum + B p rows m (p .retire)) 100000000) 29
+  unfolding lineRefusal
+  line-summed h =
+      let within = unless (leb (sum + B p rows m (p .retire)) 100000000) 29 in
+      first-passes (memberRefusal p rows before m) (within ∷ []) h ∙ first-alone within
+
+  pub line-kept : (lineRefusal p rows before sum m ≡ 0) ↔ ((memberRefusal p rows before m ≡ 0) × (sum + B p rows m (p .retire) ≤ 100000000))
+  unfolding lineRefusal
+  line-kept =
+      let within = leb (sum + B p rows m (p .retire)) 100000000 in
+      let rules = memberRefusal p rows before m ∷ unless within 29 ∷ [] in
+      ((λ e. let k = all-kept rules e in (k .0, leb-true _ _ (kept within 28 (k .1 .0)))), (λ k. kept-all rules (k .0, (simp (le-leb _ _ (k .1)), tt))))
 
 -- a lone member, after its plan
 pub lone-facts : (p : Plan) (rows : List (List ℕ)) (m : Member) → loneRefusal p rows m ≡ 0 → MemberRanges p rows m
 unfolding loneRefusal
 lone-facts p rows m e =
-    let both = all-kept (planRefusal p rows ∷ memberRefusal p rows 0 m ∷ []) e in
-    member-facts p rows 0 m (both .0) (both .1 .0)
+    let both = all-kept (planRefusal p rows ∷ lineRefusal p rows 0 _ m ∷ []) e in
+    member-facts p rows 0 m (both .0) (line-kept p rows 0 _ m .0 (both .1 .0) .0)
 
 -- rule 7.9 for an accepted plan
 pub accepted-never-falls : Accepted-Never-Falls

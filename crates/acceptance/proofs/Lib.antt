@@ -1,2 +1,4 @@
 -- What accepting shows.
 pub mod Facts
+pub mod LoneLaws
+pub mod SumLaws

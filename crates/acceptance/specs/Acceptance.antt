@@ -1,16 +1,18 @@
 -- Accepting a plan, its rows and a member handed in as plain values: rule 5.3, the range rules in the order of the lines. Cents for money.
 use mathlib.Core.Bool.{cond, _&&_}
 use mathlib.Core.List.{List, [], _∷_, _++_}
-use Prim.Native.Nat.{ℕ}
+use Prim.Native.Nat.{ℕ, _+_}
 use lib.Dec.{leb, ltb, eqb}
 use Rattle.rates.specs.Table.{firstAge, ages}
 use Rattle.plan.specs.declared.Plan.{Plan}
 use Rattle.plan.specs.declared.Member.{Member}
 use Rattle.plan.specs.Benefit.{B}
-use Rattle.rules.specs.Refusals.{wrongId, wrongEntry, wrongAge, wrongSalary, highBenefit}
+use Rattle.rules.specs.Refusals.{wrongId, wrongPerson, wrongEntry, wrongAge, wrongSalary, highBenefit, highSum}
 use Rattle.rules.specs.Rules.{unless, firstOf, between}
 use Rattle.rules.specs.Heading.{headRules}
 use Rattle.rules.specs.Table.{rowsRefusal}
+use Rattle.acceptance.specs.declared.Benefit.{Benefit}
+use Rattle.acceptance.specs.declared.Benefit.the-variants.{Is, Refused as NoBenefit}
 use Rattle.acceptance.specs.declared.Acceptance.{Acceptance}
 use Rattle.acceptance.specs.declared.Acceptance.the-variants.{Accepted, Refused}
 
@@ -18,12 +20,13 @@ use Rattle.acceptance.specs.declared.Acceptance.the-variants.{Accepted, 
 unfoldable pub planRefusal : Plan → List (List ℕ) → ℕ
 planRefusal p rows = firstOf (firstOf (headRules p) ∷ rowsRefusal rows firstAge ages ∷ [])
 
--- ---- a member line
--- rules 4.2 to 4.5: the id, the entry age, the age and the salary.
+-- ---- a member line, by itself
+-- rules 4.2, 4.7 and 4.3 to 4.5: the id, the person, the entry age, the age and the salary.
 -- `before` is the id of the member before, and 0 where there is none
 unfoldable pub fieldRules : Plan → (before : ℕ) → Member → List ℕ
 fieldRules p before m =
     unless (between 1 999999999 (m .id) && ltb before (m .id)) wrongId
+    ∷ unless (between 1 999999999 (m .person)) wrongPerson
     ∷ unless (leb 15 (m .entry) && ltb (m .entry) (p .retire)) wrongEntry
     ∷ unless (between (m .entry) (p .retire) (m .age)) wrongAge
     ∷ unless (leb (m .salary) 100000000) wrongSalary
@@ -33,15 +36,31 @@ fieldRules p before m =
 unfoldable pub benefitRules : Plan → List (List ℕ) → Member → List ℕ
 benefitRules p rows m = unless (leb (B p rows m (p .retire)) 100000000) highBenefit ∷ []
 
--- rule 12.4: from the smallest number up
+-- rule 12.4, in the order of the fields: 21, 28, 22, 23, 24, and then 25
 unfoldable pub memberRefusal : Plan → List (List ℕ) → (before : ℕ) → Member → ℕ
 memberRefusal p rows before m = firstOf (fieldRules p before m ++ benefitRules p rows m)
 
+-- ---- a member line, after the lines before it
+-- rule 7.10: the benefits B(r) of a person's lines among some, summed: in whole cents, as each is rounded
+unfoldable pub personSum : Plan → List (List ℕ) → (person : ℕ) → List Member → ℕ
+personSum p rows person [] = 0
+personSum p rows person (m ∷ l) = cond (eqb (m .person) person) (B p rows m (p .retire)) 0 + personSum p rows person l
+
+-- rules 7.10 and 12.4: 29 after all that the line's own rules refuse. Of the lines before it two numbers count: `before`, the id of the last, and
+-- `sum`, the benefits of the same person so far
+unfoldable pub lineRefusal : Plan → List (List ℕ) → (before sum : ℕ) → Member → ℕ
+lineRefusal p rows before sum m =
+    firstOf (memberRefusal p rows before m ∷ unless (leb (sum + B p rows m (p .retire)) 100000000) highSum ∷ [])
+
 -- ---- the answers
+-- a member's own refusal, or its B(r)
+abbrev pub benefitOr : (number benefit : ℕ) → Benefit
+benefitOr number benefit = cond (eqb number 0) (Is benefit) (NoBenefit number)
+
 -- rule 5.3, a refusal number as an answer: the line of plain values is 0
 unfoldable pub acceptanceOf : ℕ → Acceptance
 acceptanceOf number = cond (eqb number 0) Accepted (Refused number 0)
 
--- rules 5.3 and 5.5, a lone member: the plan's refusal comes first, and no id stands before its own
+-- rules 5.3 and 5.5, a lone member: the plan's refusal comes first; no id stands before its own, and no benefit is added to its own
 unfoldable pub loneRefusal : Plan → List (List ℕ) → Member → ℕ
-loneRefusal p rows m = firstOf (planRefusal p rows ∷ memberRefusal p rows 0 m ∷ [])
+loneRefusal p rows m = firstOf (planRefusal p rows ∷ lineRefusal p rows 0 0 m ∷ [])

@@ -1,7 +1,7 @@
 // Accepting a plan, its rows and a member handed in as plain values, rules 5.3 to 5.5, in the order of the lines: the rules
 // of the heading and of the table, which crate `rules` has, then those of a member, RULES section 4 and rule 7.8. A refusal is
-// its number, and 0 is none. specs/ has what every contract is an equation with, the order of the rules, in Acceptance; and in
-// Rising the law of rule 7.9 for a plan that is accepted.
+// its number, and 0 is none. specs/ has what every contract is an equation with, the order of the rules, in Acceptance; in
+// Rising the law of rule 7.9 for a plan that is accepted; and in Lone that rule 7.10 refuses no lone member.
 use plan::Member;
 use plan::Plan;
 use plan::benefit::accrued_benefit;
@@ -13,6 +13,7 @@ use rules::refusals::HIGH_BENEFIT;
 use rules::refusals::WRONG_AGE;
 use rules::refusals::WRONG_ENTRY;
 use rules::refusals::WRONG_ID;
+use rules::refusals::WRONG_PERSON;
 use rules::refusals::WRONG_SALARY;
 use rules::rows::rows_refusal;
 use rules::terms::head_refusal;
@@ -24,7 +25,8 @@ ghost use lib.Dec.{leb, ltb};
 ghost use Rattle.rules.specs.Refusals.{wrongId, wrongEntry};
 ghost use Rattle.rules.specs.Rules.{firstOf};
 ghost use Rattle.rules.specs.Rules.{unless as Rules·unless, between as Rules·between};
-ghost use Rattle.acceptance.specs.Acceptance.{planRefusal, fieldRules, memberRefusal, loneRefusal, acceptanceOf};
+ghost use Rattle.plan.specs.Benefit.{B};
+ghost use Rattle.acceptance.specs.Acceptance.{planRefusal, fieldRules, memberRefusal, loneRefusal, benefitOr, acceptanceOf};
 
 // The heading and the rows.
 pub fn plan_refusal(p: Plan, rows: Rows) -> u64
@@ -33,27 +35,42 @@ pub fn plan_refusal(p: Plan, rows: Rows) -> u64
     or_else(head_refusal(p), rows_refusal(rows))
 }
 
-// A member of an accepted plan, after the member with the id `before`. Of its benefit rule 7.8 looks at B(r) alone.
-pub fn member_refusal(p: Plan, rows: &Rows, before: u64, m: Member) -> u64
+// A member's B(r), or its own refusal's number.
+pub enum Benefit {
+    Is(u64),
+    Refused(u64),
+}
+
+// A member of an accepted plan by itself, after the member with the id `before`. Of its benefit rule 7.8 looks at B(r) alone,
+// and hands it on: rule 7.10 adds it to those of the same person.
+pub fn member_benefit(p: Plan, rows: &Rows, before: u64, m: Member) -> Benefit
     requires { ⌜ planRefusal p (now rows) ≡ 0 ⌝ }
-    ensures { λ r. ⌜ r ≡ memberRefusal p (now (rows .entry)) before m ⌝ }
+    ensures { λ r. ⌜ r ≡ benefitOr (memberRefusal p (now (rows .entry)) before m) (B p (now (rows .entry)) m (p .retire)) ⌝ }
 {
     let fields = fields_refusal(p, before, m);
     if fields != 0 {
-        return fields;
+        return Benefit::Refused(fields);
     }
     let top = accrued_benefit(p, rows, m, p.retire);
-    unless(top <= 100_000_000, HIGH_BENEFIT)
+    if top <= 100_000_000 {
+        Benefit::Is(top)
+    } else {
+        Benefit::Refused(HIGH_BENEFIT)
+    }
 }
 
-// The member's fields alone, rules 4.2 to 4.5.
+// The member's fields alone, rules 4.2, 4.7 and 4.3 to 4.5.
 fn fields_refusal(p: Plan, before: u64, m: Member) -> u64
     ensures { λ r. ⌜ r ≡ firstOf (fieldRules p before m) ⌝ }
 {
     let salary = unless(m.salary <= 100_000_000, WRONG_SALARY);
     let age = or_else(unless_between(m.entry, p.retire, m.age, WRONG_AGE), salary);
     let entry = or_else(entry_rule(p.retire, m.entry), age);
-    or_else(id_rule(before, m.id), entry)
+    let person = or_else(
+        unless_between(1, 999_999_999, m.person, WRONG_PERSON),
+        entry,
+    );
+    or_else(id_rule(before, m.id), person)
 }
 
 fn entry_rule(retire: u64, entry: u64) -> u64
@@ -90,7 +107,7 @@ pub fn accept_plan(p: Plan, rows: Rows) -> Acceptance
     answer_of(plan_refusal(p, rows))
 }
 
-// Rules 5.3 and 5.5: a lone member, after its plan.
+// Rules 5.3 and 5.5: a lone member, after its plan. It is the only line of its person, so nothing is summed.
 pub fn lone_refusal(p: Plan, rows: Rows, m: Member) -> u64
     ensures { λ r. ⌜ r ≡ loneRefusal p rows m ⌝ }
 {
@@ -98,7 +115,10 @@ pub fn lone_refusal(p: Plan, rows: Rows, m: Member) -> u64
     if refusal != 0 {
         return refusal;
     }
-    member_refusal(p, &rows, 0, m)
+    match member_benefit(p, &rows, 0, m) {
+        Benefit::Is(_) => 0,
+        Benefit::Refused(number) => number,
+    }
 }
 
 // Accepts a lone member of a plan.

@@ -85,7 +85,7 @@ pub fn read_case(case: &[u8]) -> Reading
     ensures { λ r. ⌜ r ≡ readingOf (now (case .entry)) ⌝ }
 {
     let mut rows = [[0u32; 4]; AGES];
-    let mut members = [[0u64; 4]; MOST_MEMBERS];
+    let mut members = [[0u64; 5]; MOST_MEMBERS];
     match walk_lines(case, false, &mut rows, &mut members) {
         Walked::Whole(_, _) => Reading::Read,
         Walked::Refused(number, line) => Reading::Refused(number, line),
@@ -99,7 +99,7 @@ pub enum Accepting {
 }
 
 // Rule 5.2: accepts a case file, its form and its ranges. An accepted case is copied out, its table to `rows` and its
-// members to `members`: the id, entry, age and salary of member j at place j, and zeros past the last. A refusal leaves
+// members to `members`: the id, person, entry, age and salary of member j at place j, and zeros past the last. A refusal leaves
 // both arrays as they were.
 pub fn accept_case(case: &[u8], rows: &mut Rows, members: &mut Members) -> Accepting
     ensures { λ r. ⌜ r ≡ accepting (acceptingOf (now (case .entry))) ⌝ }
@@ -107,7 +107,7 @@ pub fn accept_case(case: &[u8], rows: &mut Rows, members: &mut Members) -> Accep
     ensures { λ _. ⌜ now (members .exit) ≡ membersAfter (acceptingOf (now (case .entry))) (now (members .entry)) ⌝ }
 {
     let mut table = [[0u32; 4]; AGES];
-    let mut array = [[0u64; 4]; MOST_MEMBERS];
+    let mut array = [[0u64; 5]; MOST_MEMBERS];
     match walk_lines(case, true, &mut table, &mut array) {
         Walked::Whole(p, n) => {
             *rows = table;

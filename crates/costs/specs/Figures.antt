@@ -19,7 +19,7 @@ use Rattle.plan.specs.Weights.{summed}
 use Rattle.plan.specs.Benefit.{formulaOf, pay, pays, exactBenefit, B}
 use Rattle.rules.specs.Heading.{headRules}
 use Rattle.rules.specs.Table.{rowsRefusal, rowRules}
-use Rattle.acceptance.specs.Acceptance.{loneRefusal, planRefusal, memberRefusal, fieldRules, benefitRules}
+use Rattle.acceptance.specs.Acceptance.{loneRefusal, planRefusal, lineRefusal, memberRefusal, fieldRules, benefitRules}
 use Rattle.costs.specs.Setting.{Setting}
 use Rattle.costs.specs.Costs.{W, PV, cost, N, L}
 use Rattle.costs.specs.Valuation.{settingOf}
@@ -34,7 +34,7 @@ abbrev pub short-plan : Plan
 short-plan = short-paid 1
 
 abbrev pub short-member : Member
-short-member = record { id = 7; entry = 63; age = 64; salary = 0 }
+short-member = record { id = 7; person = 1; entry = 63; age = 64; salary = 0 }
 
 abbrev pub short-setting : Setting
 short-setting = settingOf short-plan short short-member
@@ -49,7 +49,7 @@ pay-plan formula average =
     record { interest = 1000; retire = 65; pay = 1; formula = formula; unit = 200; average = average; method = 4; assets = 2000; years = 2 }
 
 abbrev benefit : ℕ → ℕ → ℕ → ℕ
-benefit formula average k = B (pay-plan formula average) short (record { id = 7; entry = 63; age = 64; salary = 1000000 }) k
+benefit formula average k = B (pay-plan formula average) short (record { id = 7; person = 1; entry = 63; age = 64; salary = 1000000 }) k
 
 -- rule 14.17, a benefit that lies halfway between the largest that is accepted and a cent more
 abbrev ceiling-plan : Plan
@@ -57,7 +57,7 @@ ceiling-plan =
     record { interest = 1000; retire = 60; pay = 1; formula = 3; unit = 500; average = 1; method = 4; assets = 2000; years = 2 }
 
 abbrev ceiling-member : ℕ → Member
-ceiling-member salary = record { id = 7; entry = 30; age = 40; salary = salary }
+ceiling-member salary = record { id = 7; person = 1; entry = 30; age = 40; salary = salary }
 
 abbrev ceiling-benefit : Ratio
 ceiling-benefit = exactBenefit ceiling-plan short (ceiling-member 66666667) Final 60
@@ -113,5 +113,5 @@ member-figures =
     ∷ []
 
 pub figures-are : all-are member-figures ≡ true
-unfolding member-figures factors rates short able serves leaves stays staying nearest carried step A pension G T Z _over_ whole _⊕_ _⊗_ inverse summed formulaOf pay pays exactBenefit B PV cost N L loneRefusal planRefusal headRules rowsRefusal rowRules memberRefusal fieldRules benefitRules
+unfolding member-figures factors rates short able serves leaves stays staying nearest carried step A pension G T Z _over_ whole _⊕_ _⊗_ inverse summed formulaOf pay pays exactBenefit B PV cost N L loneRefusal planRefusal headRules rowsRefusal rowRules lineRefusal memberRefusal fieldRules benefitRules
 figures-are = refl

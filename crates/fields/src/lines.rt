@@ -1,5 +1,6 @@
 // A line of a key, whole numbers with a comma after each, and a last value. There are three kinds of them, and a function
-// for each: where the fields stand one after the other LLVM inlines them, and it doesn't where they are read in a loop.
+// for each: where the fields stand one after the other, in a function that one other calls, LLVM inlines them. It doesn't
+// where they are read in a loop, or where rows and members share a function.
 use crate::numbers::Field;
 use crate::numbers::amount_at;
 use crate::numbers::field_at;
@@ -14,7 +15,7 @@ ghost use Rattle.fields.specs.Split.{hasOf, uptoOf};
 ghost use Rattle.fields.specs.Numbers.{wholeOf, amountOf};
 ghost use Rattle.fields.specs.Values.{Held, keyedOf, lastOf, lineOf};
 
-// The values of the longest line: a row's.
+// The values of the longest lines: a row's, and a member's.
 pub type Read = [u64; 5];
 
 // What a line is: right in its form, with the place of its byte 10; or not; or cut off before a byte 10.
@@ -52,28 +53,31 @@ pub fn one_value(s: &[u8], key: &[u8], amount: bool, values: &mut Read) -> Line
     Line::Good(e)
 }
 
-// The same with three whole numbers and an amount.
-pub fn four_values(s: &[u8], key: &[u8], values: &mut Read) -> Line
+// The same with four whole numbers and an amount.
+pub fn four_and_amount(s: &[u8], key: &[u8], values: &mut Read) -> Line
     requires { ⌜ hasOf 10 (now key) ≡ false ⌝ }
-    ensures { λ r. ⌜ r ≡ lineOf (keyedOf (now (key .entry)) amountOf 3) (now (s .entry)) ⌝ }
-    ensures { λ r. ⌜ ((e : ℕ) → r ≡ Good e → Held (keyedOf (now (key .entry)) amountOf 3 (uptoOf 10 (now (s .entry)))) 3 (now (values .exit))) ⌝ }
+    ensures { λ r. ⌜ r ≡ lineOf (keyedOf (now (key .entry)) amountOf 4) (now (s .entry)) ⌝ }
+    ensures { λ r. ⌜ ((e : ℕ) → r ≡ Good e → Held (keyedOf (now (key .entry)) amountOf 4 (uptoOf 10 (now (s .entry)))) 4 (now (values .exit))) ⌝ }
 {
     if !starts(s, key) {
         return unread(s);
     }
-    let Field::Is(a, i) = field_at(s, key.len(), 44) else {
+    let Field::Is(a, g) = field_at(s, key.len(), 44) else {
         return unread(s);
     };
-    let Field::Is(b, j) = field_at(s, i + 1, 44) else {
+    let Field::Is(b, h) = field_at(s, g + 1, 44) else {
         return unread(s);
     };
-    let Field::Is(c, k) = field_at(s, j + 1, 44) else {
+    let Field::Is(c, i) = field_at(s, h + 1, 44) else {
         return unread(s);
     };
-    let Field::Is(d, e) = amount_at(s, k + 1) else {
+    let Field::Is(d, j) = field_at(s, i + 1, 44) else {
         return unread(s);
     };
-    *values = [a, b, c, d, 0];
+    let Field::Is(m, e) = amount_at(s, j + 1) else {
+        return unread(s);
+    };
+    *values = [a, b, c, d, m];
     Line::Good(e)
 }
 

@@ -8,7 +8,7 @@ use lib.Dec.{leb, eqb}
 use lib.ListN.{length}
 use Rattle.acceptance.specs.Acceptance.{loneRefusal}
 use Rattle.walk.specs.Outcome.{Outcome, values, refusal, andThen}
-use Rattle.walk.specs.Answers.{Section, FormOf, term-cut, term-form, row-cut, row-form, tail-cut, count, tail-form, surplus, after-end, RangeOf, of-a-term, of-average, of-a-rate, of-death, of-weight, of-id, of-entry, of-age, of-salary, of-benefit, Placed, no-line, of-form, of-range}
+use Rattle.walk.specs.Answers.{Section, FormOf, term-cut, term-form, row-cut, row-form, tail-cut, count, tail-form, surplus, after-end, RangeOf, of-a-term, of-average, of-a-rate, of-death, of-weight, of-id, of-person, of-entry, of-age, of-salary, of-benefit, of-sum, Placed, no-line, of-form, of-range}
 use Rattle.walk.proofs.Theorems.{refusals-are-placed}
 use Rattle.casefile.specs.Answers.{acceptingOf}
 use Rattle.costs.specs.declared.Figures.{Figures}
@@ -37,10 +37,12 @@ range-above of-a-rate = omega arith
 range-above of-death = omega arith
 range-above of-weight = omega arith
 range-above of-id = omega arith
+range-above of-person = omega arith
 range-above of-entry = omega arith
 range-above of-age = omega arith
 range-above of-salary = omega arith
 range-above of-benefit = omega arith
+range-above of-sum = omega arith
 
 placed-above : {n l : ℕ} → Placed n l → 0 < n
 placed-above no-line = omega arith

@@ -51,7 +51,7 @@ pub extern "C" fn kuyeshan_accept(case: &[u8], line: &mut u64) -> u64
     ensures { λ _. ⌜ now (line .exit) ≡ lineNumberOf (acceptingOf (now (case .entry))) ⌝ }
 {
     let mut rows = [[0u32; 4]; AGES];
-    let mut members = [[0u64; 4]; MOST_MEMBERS];
+    let mut members = [[0u64; 5]; MOST_MEMBERS];
     match casefile::accept_case(case, &mut rows, &mut members) {
         Accepting::Accepted(_, _) => {
             *line = 0;
@@ -170,7 +170,7 @@ pub extern "C" fn kuyeshan_refusal_line(
 pub extern "C" fn kuyeshan_value_member(
     plan: &Terms,
     rows: &Rows,
-    member: &[u64; 4],
+    member: &[u64; 5],
     figures: &mut [u64; 4],
 ) -> u64
     ensures { λ r. ⌜ r ≡ refusedBy (valuation (planFrom (now (plan .entry))) (now (rows .entry)) (memberFrom (now (member .entry)))) ⌝ }
@@ -187,13 +187,14 @@ pub extern "C" fn kuyeshan_value_member(
     }
 }
 
-fn member_of(numbers: &[u64; 4]) -> Member
+fn member_of(numbers: &[u64; 5]) -> Member
     ensures { λ m. ⌜ m ≡ memberFrom (now (numbers .entry)) ⌝ }
 {
     Member {
         id: numbers[0],
-        entry: numbers[1],
-        age: numbers[2],
-        salary: numbers[3],
+        person: numbers[1],
+        entry: numbers[2],
+        age: numbers[3],
+        salary: numbers[4],
     }
 }

@@ -19,7 +19,7 @@ pub array-next : (l : List Member) (m : Member) {j : ℕ} → length l ≡ j →
 unfolding arrayOf
 array-next l m {j} many =
     let place : j ≡ 0 + length (map numbersOf l) = omega (arith, length-map l numbersOf) in
-    rw (place, map-append numbersOf l (m ∷ [])) (sym (sets-on (replicate mostMembers (replicate 4 0)) 0 (map numbersOf l) (numbersOf m)))
+    rw (place, map-append numbersOf l (m ∷ [])) (sym (sets-on (replicate mostMembers (replicate 5 0)) 0 (map numbersOf l) (numbersOf m)))
 
 -- ---- each in its place
 numbers-at : (l : List Member) (j : ℕ) → j < length l → getD (map numbersOf l) j [] ≡ numbersOf (getD l j nobody)
@@ -30,8 +30,8 @@ numbers-at (m ∷ l) (suc j) h = numbers-at l j (omega arith)
 pub array-member : (l : List Member) (j : ℕ) → j < length l → length l ≤ mostMembers → memberAt (arrayOf l) j ≡ getD l j nobody
 unfolding arrayOf
 array-member l j h few =
-    let none : List (List ℕ) = replicate mostMembers (replicate 4 0) in
+    let none : List (List ℕ) = replicate mostMembers (replicate 5 0) in
     let long = length-map l numbersOf in
-    let room : 0 + length (map numbersOf l) ≤ length none = rw (length-replicate {A = List ℕ} mostMembers (replicate 4 0)) (omega (arith, long)) in
+    let room : 0 + length (map numbersOf l) ≤ length none = rw (length-replicate {A = List ℕ} mostMembers (replicate 5 0)) (omega (arith, long)) in
     let whole : sets none 0 (map numbersOf l) ≡ map numbersOf l ++ drop (0 + length (map numbersOf l)) none = sets-eq (map numbersOf l) none 0 room in
     ap memberFrom (ap (λ (a : List (List ℕ)). getD a j []) whole ∙ List·getD-append (map numbersOf l) (drop (0 + length (map numbersOf l)) none) [] j (omega (arith, long)) ∙ numbers-at l j h)

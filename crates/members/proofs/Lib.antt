@@ -1,4 +1,5 @@
--- The laws of the members: a line, the array, and the loop over the lines.
+-- The laws of the members: a line, the array, what the range rules say of a line, and the loop over the lines.
 pub mod LineLaws
 pub mod ArrayLaws
+pub mod RefusalLaws
 pub mod MemberLaws

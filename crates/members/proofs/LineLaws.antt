@@ -15,8 +15,8 @@ use Rattle.fields.specs.Values.{Values, Held, found, misread, valuesOf, keyedOf
 use Rattle.fields.proofs.SplitLaws.{has-line, has-none}
 use Rattle.fields.proofs.KeyLaws.{starts-line}
 use Rattle.fields.proofs.AnswerLaws.{GoodLine, good-line, is-good, is-wrong, is-cut, Answers}
-use Rattle.walk.specs.Lines.{Tail, person, end, surplus, neither, memberFrom, personMade, endMade, tailOf}
-use Rattle.members.specs.declared.Kind.the-variants.{Person, End, Surplus, Neither, Cut as CutOff}
+use Rattle.walk.specs.Lines.{Tail, listed, end, surplus, neither, memberFrom, listedMade, endMade, tailOf}
+use Rattle.members.specs.declared.Kind.the-variants.{Listed, End, Surplus, Neither, Cut as CutOff}
 use Rattle.members.specs.declared.Kind.{Kind}
 use Rattle.members.specs.Tails.{kindAt, kindOf, TailHeld}
 
@@ -34,9 +34,9 @@ module _ (full : Bool) (s values : List ℕ) where
     unfolding kindOf
     kind-is is = rw (has, is)
 
-    kind-person : {e : ℕ} → e ≡ seekOf 10 s → tailOf full (uptoOf 10 s) ≡ person (memberFrom values) → length values ≡ 5 → TailAnswers full s (Person e) values
-    kind-person place is size =
-        (ap Person place ∙ kind-is is, record { member = λ e same. (is, size); count = λ e same. let z : _≡_ {A = ℕ} 0 1 = cc in absurd (omega arith) })
+    kind-listed : {e : ℕ} → e ≡ seekOf 10 s → tailOf full (uptoOf 10 s) ≡ listed (memberFrom values) → length values ≡ 5 → TailAnswers full s (Listed e) values
+    kind-listed place is size =
+        (ap Listed place ∙ kind-is is, record { member = λ e same. (is, size); count = λ e same. let z : _≡_ {A = ℕ} 0 1 = cc in absurd (omega arith) })
 
     kind-end : {e : ℕ} → e ≡ seekOf 10 s → tailOf full (uptoOf 10 s) ≡ end (getD values 0 0) → length values ≡ 5 → TailAnswers full s (End e) values
     kind-end place is size =
@@ -69,28 +69,28 @@ starts-of key last n l {vs} is = pick (startsOf key l) (valuesOf last n (drop (l
     pick true x e = refl
     pick false x e = let z : _≡_ {A = ℕ} 0 1 = cc in absurd (omega arith)
 
-module _ (full : Bool) (s values : List ℕ) {r : Line} (room : full ≡ false) (read : Answers (keyedOf (bytes "member=") amountOf 3) s r (Held (keyedOf (bytes "member=") amountOf 3 (uptoOf 10 s)) 3 values)) where
-  member-is : {x : Values} → startsOf (bytes "member=") (uptoOf 10 s) ≡ true → keyedOf (bytes "member=") amountOf 3 (uptoOf 10 s) ≡ x → tailOf full (uptoOf 10 s) ≡ personMade x
+module _ (full : Bool) (s values : List ℕ) {r : Line} (room : full ≡ false) (read : Answers (keyedOf (bytes "member=") amountOf 4) s r (Held (keyedOf (bytes "member=") amountOf 4 (uptoOf 10 s)) 4 values)) where
+  member-is : {x : Values} → startsOf (bytes "member=") (uptoOf 10 s) ≡ true → keyedOf (bytes "member=") amountOf 4 (uptoOf 10 s) ≡ x → tailOf full (uptoOf 10 s) ≡ listedMade x
   unfolding tailOf
   member-is on is = rw (on, room, is)
 
-  first-four : memberFrom (take 4 values) ≡ memberFrom values
-  first-four =
-      rw (getD-take 4 values 0 0 (omega arith), getD-take 4 values 1 0 (omega arith), getD-take 4 values 2 0 (omega arith), getD-take 4 values 3 0 (omega arith))
+  first-five : memberFrom (take 5 values) ≡ memberFrom values
+  first-five =
+      rw (getD-take 5 values 0 0 (omega arith), getD-take 5 values 1 0 (omega arith), getD-take 5 values 2 0 (omega arith), getD-take 5 values 3 0 (omega arith), getD-take 5 values 4 0 (omega arith))
 
-  pub member-good : {e : ℕ} → r ≡ Good e → TailAnswers full s (Person e) values
+  pub member-good : {e : ℕ} → r ≡ Good e → TailAnswers full s (Listed e) values
   member-good {e} is =
-      let g = is-good (keyedOf (bytes "member=") amountOf 3) s (read .0) is in
+      let g = is-good (keyedOf (bytes "member=") amountOf 4) s (read .0) is in
       let h = read .1 e is in
-      kind-person full s values (g .has) (g .place) (member-is (starts-of (bytes "member=") amountOf 3 (uptoOf 10 s) (h .is)) (h .is) ∙ ap person first-four) (h .size)
+      kind-listed full s values (g .has) (g .place) (member-is (starts-of (bytes "member=") amountOf 4 (uptoOf 10 s) (h .is)) (h .is) ∙ ap listed first-five) (h .size)
 
   pub member-wrong : {b : Bool} → r ≡ Wrong → b ≡ startsOf (bytes "member=") s → b ≡ true → TailAnswers full s Neither values
   member-wrong is tested on =
-      let w = is-wrong (keyedOf (bytes "member=") amountOf 3) s (read .0) is in
+      let w = is-wrong (keyedOf (bytes "member=") amountOf 4) s (read .0) is in
       kind-neither full s values (w .0) (member-is (starts-line (bytes "member=") s refl ∙ sym tested ∙ on) (w .1))
 
   pub member-cut : r ≡ Cut → TailAnswers full s CutOff values
-  member-cut is = kind-cut full s values (is-cut (keyedOf (bytes "member=") amountOf 3) s (read .0) is)
+  member-cut is = kind-cut full s values (is-cut (keyedOf (bytes "member=") amountOf 4) s (read .0) is)
 
 -- the end
 module _ (full : Bool) (s values : List ℕ) (off-key : startsOf (bytes "member=") s ≡ false) {r : Line} (read : Answers (keyedOf (bytes "end=") wholeOf 0) s r (Held (keyedOf (bytes "end=") wholeOf 0 (uptoOf 10 s)) 0 values)) where
@@ -119,7 +119,7 @@ module _ (full : Bool) (s : List ℕ) {r : Kind} (answered : r ≡ kindOf full s
   tail-cut is = pick (hasOf 10 s) (tailOf full (uptoOf 10 s)) (sym is ∙ answered)
     where
       pick : (h : Bool) (x : Tail) → CutOff ≡ cond h (kindAt x (seekOf 10 s)) CutOff → h ≡ false
-      pick true (person m) e = let z : _≡_ {A = ℕ} 0 1 = cc in absurd (omega arith)
+      pick true (listed m) e = let z : _≡_ {A = ℕ} 0 1 = cc in absurd (omega arith)
       pick true (end n) e = let z : _≡_ {A = ℕ} 0 1 = cc in absurd (omega arith)
       pick true surplus e = let z : _≡_ {A = ℕ} 0 1 = cc in absurd (omega arith)
       pick true neither e = let z : _≡_ {A = ℕ} 0 1 = cc in absurd (omega arith)
@@ -130,7 +130,7 @@ module _ (full : Bool) (s : List ℕ) {r : Kind} (answered : r ≡ kindOf full s
   tail-surplus is = pick (hasOf 10 s) (tailOf full (uptoOf 10 s)) (sym is ∙ answered)
     where
       pick : (h : Bool) (x : Tail) → Surplus ≡ cond h (kindAt x (seekOf 10 s)) CutOff → (h ≡ true) × (x ≡ surplus)
-      pick true (person m) e = let z : _≡_ {A = ℕ} 0 1 = cc in absurd (omega arith)
+      pick true (listed m) e = let z : _≡_ {A = ℕ} 0 1 = cc in absurd (omega arith)
       pick true (end n) e = let z : _≡_ {A = ℕ} 0 1 = cc in absurd (omega arith)
       pick true surplus e = (refl, refl)
       pick true neither e = let z : _≡_ {A = ℕ} 0 1 = cc in absurd (omega arith)
@@ -141,18 +141,18 @@ module _ (full : Bool) (s : List ℕ) {r : Kind} (answered : r ≡ kindOf full s
   tail-neither is = pick (hasOf 10 s) (tailOf full (uptoOf 10 s)) (sym is ∙ answered)
     where
       pick : (h : Bool) (x : Tail) → Neither ≡ cond h (kindAt x (seekOf 10 s)) CutOff → (h ≡ true) × (x ≡ neither)
-      pick true (person m) e = let z : _≡_ {A = ℕ} 0 1 = cc in absurd (omega arith)
+      pick true (listed m) e = let z : _≡_ {A = ℕ} 0 1 = cc in absurd (omega arith)
       pick true (end n) e = let z : _≡_ {A = ℕ} 0 1 = cc in absurd (omega arith)
       pick true surplus e = let z : _≡_ {A = ℕ} 0 1 = cc in absurd (omega arith)
       pick true neither e = (refl, refl)
       pick false x e = let z : _≡_ {A = ℕ} 0 1 = cc in absurd (omega arith)
 
-  pub tail-person : {e : ℕ} → r ≡ Person e → GoodLine s e
+  pub tail-listed : {e : ℕ} → r ≡ Listed e → GoodLine s e
   unfolding kindOf
-  tail-person {e} is = let p = pick (hasOf 10 s) (tailOf full (uptoOf 10 s)) (sym is ∙ answered) in good-line s (p .0) (p .1)
+  tail-listed {e} is = let p = pick (hasOf 10 s) (tailOf full (uptoOf 10 s)) (sym is ∙ answered) in good-line s (p .0) (p .1)
     where
-      pick : (h : Bool) (x : Tail) → Person e ≡ cond h (kindAt x (seekOf 10 s)) CutOff → (h ≡ true) × (e ≡ seekOf 10 s)
-      pick true (person m) is = (refl, (cc))
+      pick : (h : Bool) (x : Tail) → Listed e ≡ cond h (kindAt x (seekOf 10 s)) CutOff → (h ≡ true) × (e ≡ seekOf 10 s)
+      pick true (listed m) is = (refl, (cc))
       pick true (end n) is = let z : _≡_ {A = ℕ} 0 1 = cc in absurd (omega arith)
       pick true surplus is = let z : _≡_ {A = ℕ} 0 1 = cc in absurd (omega arith)
       pick true neither is = let z : _≡_ {A = ℕ} 0 1 = cc in absurd (omega arith)
@@ -163,7 +163,7 @@ module _ (full : Bool) (s : List ℕ) {r : Kind} (answered : r ≡ kindOf full s
   tail-end {e} is = let p = pick (hasOf 10 s) (tailOf full (uptoOf 10 s)) (sym is ∙ answered) in good-line s (p .0) (p .1)
     where
       pick : (h : Bool) (x : Tail) → End e ≡ cond h (kindAt x (seekOf 10 s)) CutOff → (h ≡ true) × (e ≡ seekOf 10 s)
-      pick true (person m) is = let z : _≡_ {A = ℕ} 0 1 = cc in absurd (omega arith)
+      pick true (listed m) is = let z : _≡_ {A = ℕ} 0 1 = cc in absurd (omega arith)
       pick true (end n) is = (refl, (cc))
       pick true surplus is = let z : _≡_ {A = ℕ} 0 1 = cc in absurd (omega arith)
       pick true neither is = let z : _≡_ {A = ℕ} 0 1 = cc in absurd (omega arith)

@@ -12,23 +12,29 @@ use borrow.Author.Tests.{eq-eqb, ne-eqb, le-leb, lt-leb, eqb-true, eqb-false}
 use Rattle.fields.specs.Split.{hasOf, uptoOf, pastOf}
 use Rattle.plan.specs.declared.Plan.{Plan}
 use Rattle.plan.specs.declared.Member.{Member}
-use Rattle.acceptance.specs.Acceptance.{memberRefusal}
+use Rattle.plan.specs.Benefit.{B}
+use Rattle.acceptance.specs.Acceptance.{personSum, lineRefusal}
+use Rattle.acceptance.proofs.SumLaws.{sum-next}
+use Rattle.persons.specs.Held.{held as held-for}
+use Rattle.persons.specs.Search.{Rooted}
+use Rattle.persons.proofs.HeldLaws.{held-zeros}
+use Rattle.persons.proofs.LineLaws.{rooted-none}
 use Rattle.walk.specs.Outcome.{values as held-values, refusal, settled}
 use Rattle.walk.specs.Lines.{Tail, mostMembers, memberFrom, tailOf}
-use Rattle.walk.specs.Step.{Head, people, ended, wrong, right, lastId, personRefusal, tailLine, verdictOf, step}
+use Rattle.walk.specs.Step.{Head, people, ended, wrong, right, lastId, refusalAfter, tailLine, verdictOf, step}
 use Rattle.walk.specs.Walk.{caseOf, walkFrom}
 use Rattle.walk.proofs.OutcomeLaws.{settled-none}
 use Rattle.walk.proofs.LineLaws.{from-line, from-end}
 use Rattle.walk.proofs.StepLaws.{full-none}
 use Rattle.stretches.proofs.StretchLaws.{line-cut, line-wrong, line-refused, line-passed, next-rest, next-within}
 use Rattle.members.specs.declared.Kind.{Kind}
-use Rattle.members.specs.declared.Kind.the-variants.{Person, End, Surplus, Neither, Cut}
+use Rattle.members.specs.declared.Kind.the-variants.{Listed, End, Surplus, Neither, Cut}
 use Rattle.members.specs.declared.Count.{Count}
 use Rattle.members.specs.declared.Count.the-variants.{Counted, Refused}
 use Rattle.members.specs.Array.{numbersOf, arrayOf}
 use Rattle.members.specs.Tails.{kindOf, TailHeld}
 use Rattle.members.specs.Stretch.{SameHead, MembersAre, endCount}
-use Rattle.members.proofs.LineLaws.{tail-cut, tail-surplus, tail-neither, tail-person, tail-end}
+use Rattle.members.proofs.LineLaws.{tail-cut, tail-surplus, tail-neither, tail-listed, tail-end}
 use Rattle.members.proofs.ArrayLaws.{array-next}
 
 -- ---- the id before, and the room that is left
@@ -56,26 +62,28 @@ after-end ranges k h members (b ∷ s) = pick (hasOf 10 (b ∷ s)) refl
 
 -- ---- the loop
 -- so many members are read, and the next line begins at place `at`
-pub record MembersRead (ranges : Bool) (p : Plan) (rows : List (List ℕ)) (first : ℕ) (s : List ℕ) (array : List (List ℕ)) (at count before : ℕ) : Type 0 where
+pub record MembersRead (ranges : Bool) (p : Plan) (rows : List (List ℕ)) (first : ℕ) (s : List ℕ) (array : List (List ℕ)) (cells : List ℕ) (sums : List (List ℕ)) (at count before : ℕ) : Type 0 where
   pub members : List Member
   pub many : length members ≡ count
   pub few : count ≤ 1000
   pub within : at ≤ length s
   pub id : before ≡ lastId members
   pub held : array ≡ arrayOf members
+  pub rooted : Rooted cells sums count
+  pub summed : ranges ≡ true → (person : ℕ) → held-for sums person ≡ personSum p rows person members
   pub way : (h : Head) → SameHead ranges p rows h → walkFrom ranges first (people h []) s ≡ walkFrom ranges (first + count) (people h members) (drop at s)
 
-pub members-none : (ranges : Bool) (p : Plan) (rows : List (List ℕ)) (first : ℕ) (s : List ℕ) → MembersRead ranges p rows first s (replicate mostMembers (replicate 4 0)) 0 0 0
-unfolding arrayOf
+pub members-none : (ranges : Bool) (p : Plan) (rows : List (List ℕ)) (first : ℕ) (s : List ℕ) → MembersRead ranges p rows first s (replicate mostMembers (replicate 5 0)) (replicate 6098 0) (replicate 1000 (replicate 2 0)) 0 0 0
+unfolding arrayOf personSum
 members-none ranges p rows first s =
     let here : first + 0 ≡ first = omega arith in
-    record { members = []; many = refl; few = omega arith; within = omega arith; id = refl; held = refl; way = λ h fits. rw here }
+    record { members = []; many = refl; few = omega arith; within = omega arith; id = refl; held = refl; rooted = rooted-none; summed = λ on person. held-zeros 1000 person; way = λ h fits. rw here }
 
 settled-same : (ranges : Bool) {a b : ℕ} → (ranges ≡ true → a ≡ b) → settled ranges a ≡ settled ranges b
 settled-same true e = e refl
 settled-same false e = refl
 
-module _ {ranges : Bool} {p : Plan} {rows : List (List ℕ)} {first : ℕ} {s : List ℕ} {array : List (List ℕ)} {at count before : ℕ} (i : MembersRead ranges p rows first s array at count before) (values : List ℕ) {rest : List ℕ} (cut : rest ≡ drop at s) {r : Kind} (given : (r ≡ kindOf (eqb count 1000) rest) × TailHeld (eqb count 1000) rest r values) where
+module _ {ranges : Bool} {p : Plan} {rows : List (List ℕ)} {first : ℕ} {s : List ℕ} {array : List (List ℕ)} {cells : List ℕ} {sums : List (List ℕ)} {at count before : ℕ} (i : MembersRead ranges p rows first s array cells sums at count before) (values : List ℕ) {rest : List ℕ} (cut : rest ≡ drop at s) {r : Kind} (given : (r ≡ kindOf (eqb count 1000) rest) × TailHeld (eqb count 1000) rest r values) where
   read : (r ≡ kindOf (eqb count 1000) (drop at s)) × TailHeld (eqb count 1000) (drop at s) r values
   read = rw cut at given
 
@@ -135,27 +143,27 @@ module _ {ranges : Bool} {p : Plan} {rows : List (List ℕ)} {first : ℕ} {s : 
         go false b d z = miscounted h fits (eqb-false _ _ b)
 
   -- ---- a member
-  module _ {e : ℕ} (is : r ≡ Person e) where
-    pub person-place : at + (e + 1) ≤ length s
-    person-place = next-within s at e (tail-person (eqb count 1000) (drop at s) (read .0) is)
+  module _ {e : ℕ} (is : r ≡ Listed e) where
+    pub listed-place : at + (e + 1) ≤ length s
+    listed-place = next-within s at e (tail-listed (eqb count 1000) (drop at s) (read .0) is)
 
     pub room : count < 1000
     room = ⊎-elim (λ (full : count ≡ 1000). full-none (uptoOf 10 (drop at s)) (memberFrom values) (rw (eq-eqb count 1000 full) at (read .1 .member e is .0))) (λ l. l) (eq-or-lt-of-le (i .few))
 
-    module _ {m : Member} {x : ℕ} (made : m ≡ memberFrom values) (rule : x ≡ settled ranges (memberRefusal p rows before m)) where
-      good : (h : Head) → SameHead ranges p rows h → verdictOf (people h (i .members)) (uptoOf 10 (drop at s)) (uptoOf 10 (pastOf 10 (drop at s))) ≡ right (personRefusal h (i .members) m) (people h (i .members ++ m ∷ []))
+    module _ {m : Member} {x : ℕ} (made : m ≡ memberFrom values) (rule : x ≡ settled ranges (lineRefusal p rows before (held-for sums (m .person)) m)) where
+      good : (h : Head) → SameHead ranges p rows h → verdictOf (people h (i .members)) (uptoOf 10 (drop at s)) (uptoOf 10 (pastOf 10 (drop at s))) ≡ right (refusalAfter h (i .members) m) (people h (i .members ++ m ∷ []))
       good h fits = form h fits (uptoOf 10 (pastOf 10 (drop at s))) (read .1 .member e is .0) ∙ rw made
 
-      judged : (h : Head) → SameHead ranges p rows h → x ≡ settled ranges (personRefusal h (i .members) m)
-      judged h fits = rule ∙ settled-same ranges (λ on. let f = fits on in rw (f .0, f .1, i .id))
+      judged : (h : Head) → SameHead ranges p rows h → x ≡ settled ranges (refusalAfter h (i .members) m)
+      judged h fits = rule ∙ settled-same ranges (λ on. let f = fits on in let g = i .summed on (m .person) in rw (i .id, g, f .0, f .1))
 
       pub members-refused : (x ≡ 0 → ⊥) → (h : Head) → SameHead ranges p rows h → walkFrom ranges first (people h []) s ≡ refusal x (first + count)
       members-refused some h fits =
-          i .way h fits ∙ line-refused ranges (first + count) (people h (i .members)) (drop at s) (tail-person (eqb count 1000) (drop at s) (read .0) is .has) (good h fits) (judged h fits) some
+          i .way h fits ∙ line-refused ranges (first + count) (people h (i .members)) (drop at s) (tail-listed (eqb count 1000) (drop at s) (read .0) is .has) (good h fits) (judged h fits) some
 
-      pub members-next : {array' : List (List ℕ)} → x ≡ 0 → array' ≡ set array count (numbersOf m) → MembersRead ranges p rows first s array' (at + (e + 1)) (count + 1) (m .id)
-      members-next kept put =
-          let g = tail-person (eqb count 1000) (drop at s) (read .0) is in
+      pub members-next : {array' : List (List ℕ)} {cells' : List ℕ} {sums' : List (List ℕ)} → x ≡ 0 → array' ≡ set array count (numbersOf m) → Rooted cells' sums' (count + 1) → (ranges ≡ true → (person : ℕ) → held-for sums' person ≡ held-for sums person + cond (eqb (m .person) person) (B p rows m (p .retire)) 0) → MembersRead ranges p rows first s array' cells' sums' (at + (e + 1)) (count + 1) (m .id)
+      members-next kept put grown more =
+          let g = tail-listed (eqb count 1000) (drop at s) (read .0) is in
           let long = length-append (i .members) (m ∷ []) in
           let place : first + count + 1 ≡ first + (count + 1) = omega arith in
           record {
@@ -165,5 +173,7 @@ module _ {ranges : Bool} {p : Plan} {rows : List (List ℕ)} {first : ℕ} {s : 
             within = next-within s at e g;
             id = sym (last-id (i .members) m);
             held = put ∙ rw (i .held) (array-next (i .members) m (i .many));
+            rooted = grown;
+            summed = λ on person. more on person ∙ rw (i .summed on person) (sym (sum-next p rows person (i .members) m));
             way = λ h fits. rw (← place) (i .way h fits ∙ line-passed ranges (first + count) (people h (i .members)) (drop at s) (g .has) (good h fits) (judged h fits) kept (next-rest s at e g));
           }

@@ -8,11 +8,11 @@ use Rattle.walk.specs.Lines.{mostMembers, memberFrom}
 
 -- rule 4.1: the numbers of a member, as a member line has them
 abbrev pub numbersOf : Member → List ℕ
-numbersOf m = m .id ∷ m .entry ∷ m .age ∷ m .salary ∷ []
+numbersOf m = m .id ∷ m .person ∷ m .entry ∷ m .age ∷ m .salary ∷ []
 
 -- the array of up to 1,000 members: their numbers from place 0 on and zeros after
 unfoldable pub arrayOf : List Member → List (List ℕ)
-arrayOf l = sets (replicate mostMembers (replicate 4 0)) 0 (map numbersOf l)
+arrayOf l = sets (replicate mostMembers (replicate 5 0)) 0 (map numbersOf l)
 
 -- member j of an array
 abbrev pub memberAt : List (List ℕ) → ℕ → Member

@@ -5,12 +5,12 @@ use mathlib.Core.List.{List}
 use mathlib.Core.Bool.{Bool, cond}
 use lib.ListN.{length, getD}
 use Rattle.fields.specs.Split.{seekOf, hasOf, uptoOf}
-use Rattle.walk.specs.Lines.{Tail, person, end, surplus, neither, memberFrom, tailOf}
+use Rattle.walk.specs.Lines.{Tail, listed, end, surplus, neither, memberFrom, tailOf}
 use Rattle.members.specs.declared.Kind.{Kind}
-use Rattle.members.specs.declared.Kind.the-variants.{Person, End, Surplus, Neither, Cut}
+use Rattle.members.specs.declared.Kind.the-variants.{Listed, End, Surplus, Neither, Cut}
 
 abbrev pub kindAt : Tail → ℕ → Kind
-kindAt (person m) e = Person e
+kindAt (listed m) e = Listed e
 kindAt (end n) e = End e
 kindAt surplus e = Surplus
 kindAt neither e = Neither
@@ -20,5 +20,5 @@ kindOf full s = cond (hasOf 10 s) (kindAt (tailOf full (uptoOf 10 s)) (seekOf 10
 
 -- and the numbers of a member, or the count of the end line, at the front of an array
 pub record TailHeld (full : Bool) (s : List ℕ) (r : Kind) (values : List ℕ) : Type 0 where
-  pub member : (e : ℕ) → r ≡ Person e → (tailOf full (uptoOf 10 s) ≡ person (memberFrom values)) × (length values ≡ 5)
+  pub member : (e : ℕ) → r ≡ Listed e → (tailOf full (uptoOf 10 s) ≡ listed (memberFrom values)) × (length values ≡ 5)
   pub count : (e : ℕ) → r ≡ End e → (tailOf full (uptoOf 10 s) ≡ end (getD values 0 0)) × (length values ≡ 5)

@@ -1,12 +1,17 @@
 // The lines after the rows, RULES section 4: the members and the end.
-use acceptance::member_refusal;
+use acceptance::Benefit;
+use acceptance::member_benefit;
 use fields::lines::Line;
 use fields::lines::Read;
-use fields::lines::four_values;
+use fields::lines::four_and_amount;
 use fields::lines::one_value;
 use fields::text::from;
 use fields::text::seek;
 use fields::text::starts;
+use persons::CELLS;
+use persons::Cells;
+use persons::Sums;
+use persons::add;
 use plan::MOST_MEMBERS;
 use plan::Member;
 use plan::Members;
@@ -18,11 +23,15 @@ use rules::refusals::MEMBER_FORM;
 use rules::refusals::SURPLUS_MEMBER;
 use rules::refusals::WRONG_COUNT;
 ghost use mathlib.Core.Path.{_≡_};
-ghost use mathlib.Core.Bool.{true, false};
-ghost use Prim.Native.Nat.{_≤_};
+ghost use mathlib.Core.Bool.{true, false, cond};
+ghost use Prim.Native.Nat.{ℕ, _+_, _≤_, _<_};
+ghost use lib.Dec.{eqb};
 ghost use Rattle.fields.specs.Text.{bytes};
 ghost use Rattle.fields.specs.Split.{startsOf};
-ghost use Rattle.acceptance.specs.Acceptance.{planRefusal, memberRefusal};
+ghost use Rattle.plan.specs.Benefit.{B};
+ghost use Rattle.acceptance.specs.Acceptance.{planRefusal, lineRefusal};
+ghost use Rattle.persons.specs.Held.{held};
+ghost use Rattle.persons.specs.Search.{Rooted};
 ghost use Rattle.walk.specs.Outcome.{settled};
 ghost use Rattle.walk.specs.Lines.{memberFrom};
 ghost use Rattle.walk.specs.Step.{Head};
@@ -31,7 +40,7 @@ ghost use Rattle.members.specs.Stretch.{SameHead, MembersAre, endCount};
 
 // What kind of line stands after the rows: a member or the end, with the place of its byte 10; or one of three faults.
 pub enum Kind {
-    Person(usize),
+    Listed(usize),
     End(usize),
     Surplus,
     Neither,
@@ -39,7 +48,7 @@ pub enum Kind {
 }
 
 // A line after the rows. When the members are full one more is a surplus (refusal 27). Where the form is right a
-// member's id, entry age, age and salary, or the end line's count, are written to the front of `values`.
+// member's id, person, entry age, age and salary, or the end line's count, are written to the front of `values`.
 fn tail_line(s: &[u8], full: bool, values: &mut Read) -> Kind
     ensures { λ r. ⌜ r ≡ kindOf full (now (s .entry)) ⌝ }
     ensures { λ r. ⌜ TailHeld full (now (s .entry)) r (now (values .exit)) ⌝ }
@@ -47,8 +56,8 @@ fn tail_line(s: &[u8], full: bool, values: &mut Read) -> Kind
     if full {
         return full_line(s, values);
     }
-    match four_values(s, b"member=", values) {
-        Line::Good(e) => Kind::Person(e),
+    match four_and_amount(s, b"member=", values) {
+        Line::Good(e) => Kind::Listed(e),
         Line::Wrong => {
             if starts(s, b"member=") {
                 Kind::Neither
@@ -94,21 +103,36 @@ fn member_from(values: &Read) -> Member
 {
     Member {
         id: values[0],
-        entry: values[1],
-        age: values[2],
-        salary: values[3],
+        person: values[1],
+        entry: values[2],
+        age: values[3],
+        salary: values[4],
     }
 }
 
-// The range rules of a member where the ranges are settled: a number, 0 for none.
-fn person_refusal(ranges: bool, p: Plan, rows: &Rows, before: u64, m: Member) -> u64
-    requires { ⌜ (ranges ≡ true → planRefusal p (now rows) ≡ 0) ⌝ }
-    ensures { λ r. ⌜ r ≡ settled ranges (memberRefusal p (now (rows .entry)) before m) ⌝ }
+// The range rules of a member after `count` others, where the ranges are settled: a number, 0 for none. Where none refuses it
+// its benefit is added to its person's. After a refusal the sums are left open.
+fn line_refusal(
+    ranges: bool,
+    p: Plan,
+    rows: &Rows,
+    before: u64,
+    m: Member,
+    count: usize,
+    cells: &mut Cells,
+    sums: &mut Sums,
+) -> u64
+    requires { ⌜ (ranges ≡ true → planRefusal p (now rows) ≡ 0) × (count < 1000) × Rooted (now cells) (now sums) count ⌝ }
+    ensures { λ r. ⌜ r ≡ settled ranges (lineRefusal p (now (rows .entry)) before (held (now (sums .entry)) (m .person)) m) ⌝ }
+    ensures { λ r. ⌜ (r ≡ 0 → Rooted (now (cells .exit)) (now (sums .exit)) (count + 1)) ⌝ }
+    ensures { λ r. ⌜ (r ≡ 0 → ranges ≡ true → (person : ℕ) → held (now (sums .exit)) person ≡ held (now (sums .entry)) person + cond (eqb (m .person) person) (B p (now (rows .entry)) m (p .retire)) 0) ⌝ }
 {
-    if ranges {
-        member_refusal(p, rows, before, m)
-    } else {
-        0
+    if !ranges {
+        return 0;
+    }
+    match member_benefit(p, rows, before, m) {
+        Benefit::Is(b) => add(cells, sums, count, m.person, b),
+        Benefit::Refused(number) => number,
     }
 }
 
@@ -148,7 +172,9 @@ pub fn member_lines(
     ensures { λ r. ⌜ ((h : Head) → SameHead ranges p (now (rows .entry)) h → MembersAre ranges h first (now (s .entry)) r (now (members .exit))) ⌝ }
 {
     // Nothing that the caller left there is taken for a member.
-    *members = [[0u64; 4]; MOST_MEMBERS];
+    *members = [[0u64; 5]; MOST_MEMBERS];
+    let mut cells = [0u32; CELLS];
+    let mut sums = [[0u64; 2]; MOST_MEMBERS];
     let mut values = [0u64; 5];
     let mut at = 0;
     let mut count: u64 = 0;
@@ -156,14 +182,14 @@ pub fn member_lines(
     loop {
         let line = first + count;
         match tail_line(from(s, at), count == MOST_MEMBERS as u64, &mut values) {
-            Kind::Person(e) => {
+            Kind::Listed(e) => {
                 let m = member_from(&values);
-                let refusal = person_refusal(ranges, p, rows, before, m);
+                let j = count as usize;
+                let refusal = line_refusal(ranges, p, rows, before, m, j, &mut cells, &mut sums);
                 if refusal != 0 {
                     return Count::Refused(refusal, line);
                 }
-                let j = count as usize;
-                members[j] = [m.id, m.entry, m.age, m.salary];
+                members[j] = [m.id, m.person, m.entry, m.age, m.salary];
                 before = m.id;
                 at += e + 1;
                 count += 1;

@@ -41,6 +41,8 @@ pub type Terms = [u64; TERMS];
 
 pub struct Member {
     pub id: u64,
+    // Rule 4.7: who it is. One person may stand on several lines.
+    pub person: u64,
     pub entry: u64,
     pub age: u64,
     pub salary: u64,
@@ -49,5 +51,5 @@ pub struct Member {
 // Rule 4.1: so many members at most.
 pub const MOST_MEMBERS: usize = 1_000;
 
-// The members, each by its id, entry age, age and salary.
-pub type Members = [[u64; 4]; MOST_MEMBERS];
+// The members, each by its id, person, entry age, age and salary.
+pub type Members = [[u64; 5]; MOST_MEMBERS];

@@ -30,7 +30,8 @@ wrongLastDeath = 14
 abbrev pub wrongWeight : ℕ
 wrongWeight = 15
 
--- ---- a line after the table: its form; the id, entry age, age, salary and benefit of a member; one member too many
+-- ---- a line after the table: its form; the id, entry age, age, salary and benefit of a member; one member too many; the person, and the benefits
+-- of the person's lines together
 abbrev pub memberForm : ℕ
 memberForm = 20
 
@@ -51,6 +52,12 @@ highBenefit = 25
 
 abbrev pub surplusMember : ℕ
 surplusMember = 27
+
+abbrev pub wrongPerson : ℕ
+wrongPerson = 28
+
+abbrev pub highSum : ℕ
+highSum = 29
 
 -- ---- the output: no room for the lines
 abbrev pub noRoom : ℕ

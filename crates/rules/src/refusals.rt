@@ -35,5 +35,9 @@ pub const HIGH_BENEFIT: u64 = 25;
 
 pub const SURPLUS_MEMBER: u64 = 27;
 
+pub const WRONG_PERSON: u64 = 28;
+
+pub const HIGH_SUM: u64 = 29;
+
 // The output.
 pub const NO_ROOM: u64 = 30;

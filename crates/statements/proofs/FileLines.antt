@@ -16,7 +16,7 @@ use Rattle.fields.proofs.SplitLaws.{off}
 use Rattle.plan.specs.declared.Member.{Member}
 use Rattle.rules.specs.Refusals.{tooLarge, wrongCount}
 use Rattle.walk.specs.Outcome.{values, refusal}
-use Rattle.walk.specs.Lines.{Tail, person, end, surplus, neither, personMade, mostMembers, tailOf}
+use Rattle.walk.specs.Lines.{Tail, listed, end, surplus, neither, listedMade, mostMembers, tailOf}
 use Rattle.walk.specs.Step.{Head, State, heading, table, people, ended, wrong, right, tailLine, verdictOf, step}
 use Rattle.walk.specs.Walk.{Case, caseOf, closed, start, walkFrom, walkOf}
 use Rattle.walk.specs.Kept.{nobody}
@@ -79,7 +79,7 @@ done k h l s c e = pick (hasOf 10 s) refl
 
 -- ---- the members
 -- a line that begins with member= is no end line
-no-end : {A : Type 0} (x : Values) {n : ℕ} → personMade x ≡ end n → A
+no-end : {A : Type 0} (x : Values) {n : ℕ} → listedMade x ≡ end n → A
 no-end (found vs) e = let z : _≡_ {A = ℕ} 0 1 = cc in absurd (omega arith)
 no-end misread e = let z : _≡_ {A = ℕ} 0 1 = cc in absurd (omega arith)
 
@@ -94,7 +94,7 @@ ends full line n e = pick (startsOf (bytes "member=") line) refl full e
   where
     pick : (b : Bool) → startsOf (bytes "member=") line ≡ b → (full : Bool) → tailOf full line ≡ end n → Ends line n
     pick true is true e = let z : _≡_ {A = ℕ} 0 1 = cc (rw is at e) in absurd (omega arith)
-    pick true is false e = no-end (keyedOf (bytes "member=") amountOf 3 line) (rw is at e)
+    pick true is false e = no-end (keyedOf (bytes "member=") amountOf 4 line) (rw is at e)
     pick false is full e = record { begins = is; any = rw is (rw is at e) }
 
 -- nothing stands after the end
@@ -109,11 +109,11 @@ pub record Lined (c : Case) (h : Head) (before : List Member) (s : List ℕ) : T
   pub own : List Member
   pub is : c ≡ caseOf h (before ++ own)
   pub all : (j : ℕ) → startsOf (bytes "member=") (uptoOf 10 (linesPast j s)) ≡ true → j < length own
-  pub each : (j : ℕ) → j < length own → tailOf false (uptoOf 10 (linesPast j s)) ≡ person (getD own j nobody)
+  pub each : (j : ℕ) → j < length own → tailOf false (uptoOf 10 (linesPast j s)) ≡ listed (getD own j nobody)
   pub counted : tailOf false (uptoOf 10 (linesPast (length own) s)) ≡ end (length (c .members))
 
 module _ (c : Case) (h : Head) (before : List Member) (s : List ℕ) where
-  lined-member : (m : Member) → tailOf false (uptoOf 10 s) ≡ person m → Lined c h (before ++ m ∷ []) (pastOf 10 s) → Lined c h before s
+  lined-member : (m : Member) → tailOf false (uptoOf 10 s) ≡ listed m → Lined c h (before ++ m ∷ []) (pastOf 10 s) → Lined c h before s
   unfolding linesPast
   lined-member m is later = record { own = m ∷ later .own; is = rw append-assoc at (later .is); all = all; each = each; counted = later .counted }
     where
@@ -121,7 +121,7 @@ module _ (c : Case) (h : Head) (before : List Member) (s : List ℕ) where
       all zero starts = omega arith
       all (suc j) starts = omega (arith, later .all j starts)
 
-      each : (j : ℕ) → j < length (m ∷ later .own) → tailOf false (uptoOf 10 (linesPast j s)) ≡ person (getD (m ∷ later .own) j nobody)
+      each : (j : ℕ) → j < length (m ∷ later .own) → tailOf false (uptoOf 10 (linesPast j s)) ≡ listed (getD (m ∷ later .own) j nobody)
       each zero h = is
       each (suc j) h = later .each j (omega arith)
 
@@ -133,8 +133,8 @@ module _ (c : Case) (h : Head) (before : List Member) (s : List ℕ) where
       all zero starts = off (sym starts ∙ e .begins)
       all (suc j) starts = off (sym (rw (last .0, no-lines j) at starts))
 
-  tail-lined : (k : ℕ) (full : Bool) (x : Tail) {r : ℕ} {next : State} → tailOf full (uptoOf 10 s) ≡ x → tailLine h before x ≡ right r next → walkFrom true (k + 1) next (pastOf 10 s) ≡ values c → ((m : Member) → x ≡ person m → walkFrom true (k + 1) (people h (before ++ m ∷ [])) (pastOf 10 s) ≡ values c → Lined c h before s) → Lined c h before s
-  tail-lined k full (person m) {r} {next} is line on later =
+  tail-lined : (k : ℕ) (full : Bool) (x : Tail) {r : ℕ} {next : State} → tailOf full (uptoOf 10 s) ≡ x → tailLine h before x ≡ right r next → walkFrom true (k + 1) next (pastOf 10 s) ≡ values c → ((m : Member) → x ≡ listed m → walkFrom true (k + 1) (people h (before ++ m ∷ [])) (pastOf 10 s) ≡ values c → Lined c h before s) → Lined c h before s
+  tail-lined k full (listed m) {r} {next} is line on later =
       let is-next : next ≡ people h (before ++ m ∷ []) = cc in
       later m refl (rw is-next at on)
   tail-lined k full (end n) {r} {next} is line on later = pick (eqb n (length before)) refl line

@@ -1,4 +1,4 @@
--- A member that is accepted in a file is accepted alone too: only the id of the one before it is not asked for.
+-- A member that is accepted in a file is accepted alone too: the id of the one before it and the benefits of the same person before it are not asked for.
 use mathlib.Core.Path.{_≡_, sym, _∙_}
 use mathlib.Core.Bool.{Bool, true, false, _&&_}
 use mathlib.Core.List.{List, [], _∷_, _++_}
@@ -10,7 +10,8 @@ use lib.ListN.{drop}
 use Rattle.plan.specs.declared.Plan.{Plan}
 use Rattle.plan.specs.declared.Member.{Member}
 use Rattle.rules.specs.Rules.{unless, firstOf, between}
-use Rattle.acceptance.specs.Acceptance.{planRefusal, fieldRules, benefitRules, memberRefusal, loneRefusal}
+use Rattle.acceptance.specs.Acceptance.{planRefusal, fieldRules, benefitRules, memberRefusal, lineRefusal, loneRefusal}
+use Rattle.acceptance.proofs.LoneLaws.{first-line-own}
 use Rattle.rules.proofs.RuleLaws.{all-kept}
 use Rattle.rules.proofs.RuleLaws.{first-passes, first-alone}
 
@@ -37,4 +38,5 @@ module _ (p : Plan) (rows : List (List ℕ)) (before : ℕ) (m : Member) where
   pub accepted-alone : planRefusal p rows ≡ 0 → memberRefusal p rows before m ≡ 0 → loneRefusal p rows m ≡ 0
   unfolding loneRefusal
   accepted-alone plan member =
-      first-passes (planRefusal p rows) (memberRefusal p rows 0 m ∷ []) plan ∙ first-alone (memberRefusal p rows 0 m) ∙ no-id-before member
+      let line = lineRefusal p rows 0 0 m in
+      first-passes (planRefusal p rows) (line ∷ []) plan ∙ first-alone line ∙ first-line-own p rows 0 m ∙ no-id-before member

@@ -16,7 +16,7 @@ use Rattle.plan.specs.Weights.{summed}
 use Rattle.plan.specs.Benefit.{formulaOf, pay, pays, exactBenefit, B}
 use Rattle.rules.specs.Heading.{headRules}
 use Rattle.rules.specs.Table.{rowsRefusal, rowRules}
-use Rattle.acceptance.specs.Acceptance.{loneRefusal, planRefusal, memberRefusal, fieldRules, benefitRules}
+use Rattle.acceptance.specs.Acceptance.{loneRefusal, planRefusal, lineRefusal, memberRefusal, fieldRules, benefitRules}
 use Rattle.costs.specs.Costs.{PV, cost, N, L}
 use Rattle.costs.specs.Valuation.{methodOf, figuresAt, figures}
 use Rattle.costs.specs.Figures.{short-plan, short-member, member-figures}
@@ -43,7 +43,7 @@ proved-set =
     ∷ []
 
 pub proved-set-stands : all-are proved-set ≡ true
-unfolding proved-set total unfunded supplemental member-figures factors rates short able serves leaves stays staying nearest nearestℤ carried step A pension G T Z C _over_ whole _⊕_ _⊗_ inverse summed formulaOf pay pays exactBenefit B PV cost N L loneRefusal planRefusal headRules rowsRefusal rowRules memberRefusal fieldRules benefitRules
+unfolding proved-set total unfunded supplemental member-figures factors rates short able serves leaves stays staying nearest nearestℤ carried step A pension G T Z C _over_ whole _⊕_ _⊗_ inverse summed formulaOf pay pays exactBenefit B PV cost N L loneRefusal planRefusal headRules rowsRefusal rowRules lineRefusal memberRefusal fieldRules benefitRules
 proved-set-stands = refl
 
 -- rule 14.2: the short case, as it is printed

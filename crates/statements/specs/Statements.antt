@@ -22,7 +22,7 @@ use Rattle.fields.specs.Text.{bytes}
 use Rattle.fields.specs.Split.{startsOf}
 use Rattle.fields.specs.Numbers.{value, wholeOf, amountOf}
 use Rattle.walk.specs.Outcome.{values}
-use Rattle.walk.specs.Lines.{person, end, tailOf}
+use Rattle.walk.specs.Lines.{listed, end, tailOf}
 use Rattle.walk.specs.Walk.{Case}
 use Rattle.walk.specs.Kept.{nobody}
 use Rattle.casefile.specs.Answers.{acceptingOf}
@@ -59,7 +59,7 @@ pub record MembersStand (c : Case) (s : List ℕ) : Type 0 where
   -- a line that begins with member= is a member's: none is lost
   pub all : (j : ℕ) → startsOf (bytes "member=") (lineAt (firstMember + j) s) ≡ true → j < length (c .members)
   -- member j stands j lines after the first: none is invented
-  pub each : (j : ℕ) → j < length (c .members) → tailOf false (lineAt (firstMember + j) s) ≡ person (getD (c .members) j nobody)
+  pub each : (j : ℕ) → j < length (c .members) → tailOf false (lineAt (firstMember + j) s) ≡ listed (getD (c .members) j nobody)
   -- and the line after theirs holds their count
   pub counted : tailOf false (lineAt (firstMember + length (c .members)) s) ≡ end (length (c .members))
 

@@ -69,7 +69,7 @@ fn reading(case: &[u8]) {
 
 fn accepting(case: &[u8]) {
     let mut rows = [[0u32; 4]; AGES];
-    let mut members = [[0u64; 4]; MOST_MEMBERS];
+    let mut members = [[0u64; 5]; MOST_MEMBERS];
     match casefile::accept_case(case, &mut rows, &mut members) {
         Accepting::Accepted(p, count) => {
             io::write_all(STDOUT_FILENO, b"accepted=");
@@ -130,11 +130,12 @@ fn sum_of_members(members: Members, count: u64) -> u64 {
     total
 }
 
-fn sum_of_member(so_far: u64, member: [u64; 4]) -> u64 {
+fn sum_of_member(so_far: u64, member: [u64; 5]) -> u64 {
     let id = sum(so_far, member[0]);
-    let entry = sum(id, member[1]);
-    let age = sum(entry, member[2]);
-    sum(age, member[3])
+    let person = sum(id, member[1]);
+    let entry = sum(person, member[2]);
+    let age = sum(entry, member[3]);
+    sum(age, member[4])
 }
 
 fn number(x: u32) -> u64 {

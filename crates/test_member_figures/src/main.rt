@@ -2,7 +2,7 @@
 // what accepting the lone member answers, and what valuing it does, `figures=` B(r), V, N and L in cents. A refusal is
 // `refused=` its number and its line. A case is bytes, a number's little end first: the plan's interest, retire, pay,
 // formula, unit, average, method, assets and years in 8 each, then for each age 15 to 120 its death, withdrawal, disability and
-// weight in 4 each, then the member's id, entry, age and salary in 8 each. What it must write was made by another
+// weight in 4 each, then the member's id, person, entry, age and salary in 8 each. What it must write was made by another
 // program, tests/member_figures.py.
 use acceptance::Acceptance;
 use acceptance::accept_member;
@@ -20,7 +20,7 @@ use test_support::rows_at;
 ghost use Prim.Native.Nat.{_+_, _≤_, _<_};
 
 // How many bytes a case has.
-const SIZE: usize = 1800;
+const SIZE: usize = 1808;
 
 // The place of the first row.
 const ROWS: usize = 72;
@@ -93,15 +93,16 @@ fn plan_of(bytes: &[u8; SIZE]) -> Plan {
 fn member_of(bytes: &[u8; SIZE]) -> Member {
     Member {
         id: long_at(bytes, MEMBER),
-        entry: long_at(bytes, MEMBER + 8),
-        age: long_at(bytes, MEMBER + 16),
-        salary: long_at(bytes, MEMBER + 24),
+        person: long_at(bytes, MEMBER + 8),
+        entry: long_at(bytes, MEMBER + 16),
+        age: long_at(bytes, MEMBER + 24),
+        salary: long_at(bytes, MEMBER + 32),
     }
 }
 
 // A number of 8 bytes.
 fn long_at(bytes: &[u8; SIZE], at: usize) -> u64
-    requires { ⌜ at + 8 ≤ 1800 ⌝ }
+    requires { ⌜ at + 8 ≤ 1808 ⌝ }
 {
     let low = long(number_at(bytes, at));
     let high = long(number_at(bytes, at + 4));

@@ -45,9 +45,10 @@ pub fn member_at(members: &Members, j: usize) -> Member
     let m = members[j];
     Member {
         id: m[0],
-        entry: m[1],
-        age: m[2],
-        salary: m[3],
+        person: m[1],
+        entry: m[2],
+        age: m[3],
+        salary: m[4],
     }
 }
 

@@ -48,7 +48,7 @@ pub fn value_case_by(engine: EngineChoice, case: &[u8], out: &mut [u8]) -> Answe
     ensures { λ _. ⌜ now (out .exit) ≡ buffer (valuedOf (length (now (out .entry))) (now (case .entry))) (now (out .entry)) ⌝ }
 {
     let mut rows = [[0u32; 4]; AGES];
-    let mut members = [[0u64; 4]; MOST_MEMBERS];
+    let mut members = [[0u64; 5]; MOST_MEMBERS];
     match accept_case(case, &mut rows, &mut members) {
         Accepting::Accepted(p, count) => value_accepted(engine, p, rows, &members, count, out),
         Accepting::Refused(number, line) => Answer::Refused(number, line),

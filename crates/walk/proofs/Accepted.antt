@@ -5,27 +5,31 @@ use mathlib.Core.List.{List, [], _∷_, _++_, append-assoc, append-nil}
 use mathlib.Core.Bool.{Bool, true, false, cond}
 use mathlib.Core.Logic.{_↔_}
 use lib.ListN.{length, getD, take, length-append, List·getD-append}
+use borrow.Author.Tests.{eqb-true, eq-eqb}
 use lib.Seq.{getD-at}
 use lib.Dec.{eqb, ltb}
 use native.Mathlib.Omega.{arith}
 use native.Mathlib.Nat.{add-zero}
 use Rattle.rates.specs.Table.{ages}
 use Rattle.plan.specs.declared.Member.{Member}
+use Rattle.plan.specs.Benefit.{B}
 use Rattle.rules.specs.Rules.{firstOf}
 use Rattle.rules.specs.Heading.{TermRule, termRules, termRule, termsOf, ruled, headRules, planFrom}
 use Rattle.rules.specs.Table.{rowRules, rowNumbers, rowOf as rowIn, weightBefore, rowsRefusal}
-use Rattle.acceptance.specs.Acceptance.{planRefusal}
+use Rattle.acceptance.specs.Acceptance.{planRefusal, memberRefusal, personSum}
 use Rattle.rules.proofs.RuleLaws.{All-kept, all-kept, kept-all}
+use Rattle.acceptance.proofs.Facts.{line-kept}
+use Rattle.acceptance.proofs.SumLaws.{sum-both, sum-next}
 use Rattle.walk.specs.Outcome.{values, refusal}
 use Rattle.walk.specs.Terms.{termForms, termRefusal}
 use Rattle.walk.specs.Lines.{dueAge, rowRefusal}
-use Rattle.walk.specs.Step.{Head, State, heading, table, people, ended, lastId, personRefusal}
+use Rattle.walk.specs.Step.{Head, State, heading, table, people, ended, lastId, sumIn, refusalAfter}
 use Rattle.walk.specs.Walk.{Case, linesOf, restOf, caseOf, closed, folded, start, walkFrom, walkOf}
 use Rattle.walk.specs.Kept.{EachAfter, Each, Kept, nobody, idBefore, AcceptedCase}
 use Rattle.walk.specs.Answers.{AcceptedKeepsRules, AcceptsWhatKeepsRules}
 use Rattle.walk.proofs.OutcomeLaws.{no-values, values-one, then-values}
 use Rattle.walk.proofs.FoldLaws.{folded-keeps, accepted-kept, kept-accepted}
-use Rattle.walk.proofs.StepLaws.{Sized, line-sized, line-kept}
+use Rattle.walk.proofs.StepLaws.{Sized, line-sized, line-kept as step-kept}
 use Rattle.walk.proofs.Theorems.{start-sized}
 
 both : (a b : ℕ) → (firstOf (a ∷ b ∷ []) ≡ 0) ↔ ((a ≡ 0) × (b ≡ 0))
@@ -104,6 +108,42 @@ id-at (m ∷ l) (suc zero) h = refl
 id-at (m ∷ []) (suc (suc j)) h = absurd (omega arith)
 id-at (m ∷ n ∷ l) (suc (suc j)) h = id-at (n ∷ l) (suc j) (omega arith)
 
+-- ---- the persons
+module _ (h : Head) where
+  none : (person : ℕ) → sumIn h person [] ≤ 100000000
+  unfolding personSum
+  none person = omega arith
+
+  -- where each line is kept after those before it, each person's sum is
+  sums-kept : (before l : List Member) → EachAfter (refusalAfter h) before l → ((person : ℕ) → sumIn h person before ≤ 100000000) → (person : ℕ) → sumIn h person (before ++ l) ≤ 100000000
+  sums-kept before [] k low person = rw append-nil (low person)
+  sums-kept before (m ∷ l) k low person = rw append-assoc at (sums-kept (before ++ m ∷ []) l (k .1) next person)
+    where
+      own : ℕ
+      own = B (planFrom (h .terms)) (h .rows) m (planFrom (h .terms) .retire)
+
+      pick : (person : ℕ) (b : Bool) → eqb (m .person) person ≡ b → sumIn h person before + cond b own 0 ≤ 100000000
+      pick person true e =
+          let same = eqb-true (m .person) person e in
+          subst (λ (x : ℕ). sumIn h x before + own ≤ 100000000) same (line-kept (planFrom (h .terms)) (h .rows) (lastId before) (sumIn h (m .person) before) m .0 (k .0) .1)
+      pick person false e = rw add-zero (low person)
+
+      next : (person : ℕ) → sumIn h person (before ++ m ∷ []) ≤ 100000000
+      next person = rw (sum-next (planFrom (h .terms)) (h .rows) person before m) (pick person (eqb (m .person) person) refl)
+
+  -- and where each person's sum is kept, and each line by itself, each line is kept after those before it
+  kept-sums : (before l : List Member) → ((j : ℕ) → j < length l → memberRefusal (planFrom (h .terms)) (h .rows) (lastId (before ++ take j l)) (getD l j nobody) ≡ 0) → ((person : ℕ) → sumIn h person (before ++ l) ≤ 100000000) → EachAfter (refusalAfter h) before l
+  unfolding personSum
+  kept-sums before [] own low = tt
+  kept-sums before (m ∷ l) own low =
+      let p = planFrom (h .terms) in
+      let parts = sum-both p (h .rows) (m .person) before (m ∷ l) in
+      let mine = eq-eqb (m .person) (m .person) refl in
+      let sum : sumIn h (m .person) before + (B p (h .rows) m (p .retire) + sumIn h (m .person) l) ≤ 100000000 = rw (parts, mine) at (low (m .person)) in (
+        line-kept p (h .rows) (lastId before) (sumIn h (m .person) before) m .1 (rw append-nil at (own 0 (omega arith)), omega arith),
+        kept-sums (before ++ m ∷ []) l (λ j h. rw append-assoc (own (suc j) (omega arith))) (λ person. rw append-assoc (low person)),
+      )
+
 -- ---- a whole case
 pub plan-kept : (t : List ℕ) (rows : List (List ℕ)) → length t ≡ length termForms → length rows ≡ ages → (planRefusal (planFrom t) rows ≡ 0) ↔ (Each termRefusal t × Each rowRefusal rows)
 unfolding planRefusal
@@ -121,14 +161,15 @@ module _ (h : Head) (members : List Member) (k : ℕ) (sized : Sized k (ended h 
           plan = plan-kept (h .terms) (h .rows) (sized .1) (sized .2) .1 (k .terms, k .rows);
           all-ages = sized .2;
           few = sized .3;
-          member = λ j low. rw (← id-at members j low) (each-at (personRefusal h) nobody [] members (k .members) j low);
+          member = λ j low. rw (← id-at members j low) (line-kept _ _ _ _ _ .0 (each-at (refusalAfter h) nobody [] members (k .members) j low) .0);
+          persons = sums-kept h [] members (k .members) (none h);
         }),
     (λ a.
         let p = plan-kept (h .terms) (h .rows) (sized .1) (sized .2) .0 (a .plan) in
         record {
           terms = p .0;
           rows = p .1;
-          members = at-each (personRefusal h) nobody [] members (λ j low. rw (id-at members j low) (a .member j low));
+          members = kept-sums h [] members (λ j low. rw (id-at members j low) (a .member j low)) (a .persons);
         }),
   )
 
@@ -175,11 +216,11 @@ start-kept = record { terms = tt; rows = tt; members = tt }
 pub accepted-keeps : AcceptedKeepsRules
 accepted-keeps s c e =
     let f = last-of s c true e in
-    let g = accepted-kept Kept line-kept (restOf s) 1 start (linesOf s) (f .fold) start-kept in
+    let g = accepted-kept Kept step-kept (restOf s) 1 start (linesOf s) (f .fold) start-kept in
     (walk-of s c false (record { last = f .last; short = f .short; fold = g .0; whole = f .whole }), (last-kept s c true f) .0 (g .1))
 
 pub accepts-kept : AcceptsWhatKeepsRules
 accepts-kept s c e a =
     let f = last-of s c false e in
-    let g = kept-accepted Kept line-kept (restOf s) 1 start (linesOf s) (f .fold) ((last-kept s c false f) .1 a) in
+    let g = kept-accepted Kept step-kept (restOf s) 1 start (linesOf s) (f .fold) ((last-kept s c false f) .1 a) in
     walk-of s c true (record { last = f .last; short = f .short; fold = g .0; whole = f .whole })

@@ -6,5 +6,6 @@ pub mod RangeLaws
 pub mod StepLaws
 pub mod Theorems
 pub mod Rests
+pub mod SumRests
 pub mod Accepted
 pub mod Examples

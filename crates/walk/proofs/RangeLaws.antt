@@ -1,5 +1,5 @@
 -- The range rules, by the numbers that they give: 0 where a rule is kept, and else a number of ranges of its section.
-use Prim.Native.Nat.{ℕ, zero, suc}
+use Prim.Native.Nat.{ℕ, zero, suc, _+_}
 use mathlib.Core.Path.{_≡_, refl}
 use mathlib.Core.List.{List, [], _∷_, _++_}
 use mathlib.Core.Bool.{Bool, true, false, cond, _&&_, _||_}
@@ -16,10 +16,10 @@ use Rattle.rules.specs.Rules.{unless, firstOf, between}
 use Rattle.plan.specs.Benefit.{B}
 use Rattle.rules.specs.Heading.{TermRule, termRules, formulaIn, formulaRule, methodRule}
 use Rattle.rules.specs.Table.{rowRules, rowNumbers, weightBefore}
-use Rattle.acceptance.specs.Acceptance.{fieldRules, benefitRules, memberRefusal}
+use Rattle.acceptance.specs.Acceptance.{fieldRules, benefitRules, memberRefusal, lineRefusal}
 use Rattle.walk.specs.Terms.{formulaWord, methodWord, termForms, termForm, termRefusal}
 use Rattle.walk.specs.Lines.{dueAge, rowRefusal}
-use Rattle.walk.specs.Answers.{Section, in-heading, in-table, in-members, RangeOf, of-a-term, of-average, of-a-rate, of-death, of-weight, of-id, of-entry, of-age, of-salary, of-benefit}
+use Rattle.walk.specs.Answers.{Section, in-heading, in-table, in-members, RangeOf, of-a-term, of-average, of-a-rate, of-death, of-weight, of-id, of-person, of-entry, of-age, of-salary, of-benefit, of-sum}
 
 -- no refusal, or a range's
 abbrev pub Ranged : Section → ℕ → Type 0
@@ -52,22 +52,31 @@ row-ranged before row =
       ),
     )
 
-pub member-ranged : (p : Plan) (rows : List (List ℕ)) (before : ℕ) (m : Member) → Ranged in-members (memberRefusal p rows before m)
+member-ranged : (p : Plan) (rows : List (List ℕ)) (before : ℕ) (m : Member) → Ranged in-members (memberRefusal p rows before m)
 unfolding memberRefusal fieldRules benefitRules
 member-ranged p rows before m =
     all-ranged in-members (fieldRules p before m ++ benefitRules p rows m) (
       rule-ranged (between 1 999999999 (m .id) && ltb before (m .id)) of-id,
       (
-        rule-ranged (leb 15 (m .entry) && ltb (m .entry) (p .retire)) of-entry,
+        rule-ranged (between 1 999999999 (m .person)) of-person,
         (
-          rule-ranged (between (m .entry) (p .retire) (m .age)) of-age,
+          rule-ranged (leb 15 (m .entry) && ltb (m .entry) (p .retire)) of-entry,
           (
-            rule-ranged (leb (m .salary) 100000000) of-salary,
-            (rule-ranged (leb (B p rows m (p .retire)) 100000000) of-benefit, tt),
+            rule-ranged (between (m .entry) (p .retire) (m .age)) of-age,
+            (
+              rule-ranged (leb (m .salary) 100000000) of-salary,
+              (rule-ranged (leb (B p rows m (p .retire)) 100000000) of-benefit, tt),
+            ),
           ),
         ),
       ),
     )
+
+pub line-ranged : (p : Plan) (rows : List (List ℕ)) (before sum : ℕ) (m : Member) → Ranged in-members (lineRefusal p rows before sum m)
+unfolding lineRefusal
+line-ranged p rows before sum m =
+    all-ranged in-members (memberRefusal p rows before m ∷ unless (leb (sum + B p rows m (p .retire)) 100000000) 29 ∷ [])
+    (member-ranged p rows before m, (rule-ranged (leb (sum + B p rows m (p .retire)) 100000000) of-sum, tt))
 
 -- ---- a term: the words of the formula and the method are those that their rules allow
 abbrev Fits : (List ℕ → Values) → TermRule → Type 0

@@ -18,11 +18,11 @@ use Rattle.plan.specs.declared.Member.{Member}
 use Rattle.rules.specs.Refusals.{wrongCount}
 use Rattle.rules.specs.Heading.{planFrom}
 use Rattle.walk.specs.Terms.{termForms, termForm, termRefusal}
-use Rattle.walk.specs.Lines.{rowForm, dueAge, rowRefusal, Tail, person, end, surplus, neither, endMade, mostMembers, tailOf}
-use Rattle.walk.specs.Step.{Head, State, heading, table, people, ended, Verdict, wrong, right, withTerm, termLine, withRow, rowLine, lastId, personRefusal, tailLine, verdictOf}
+use Rattle.walk.specs.Lines.{rowForm, dueAge, rowRefusal, Tail, listed, end, surplus, neither, endMade, mostMembers, tailOf}
+use Rattle.walk.specs.Step.{Head, State, heading, table, people, ended, Verdict, wrong, right, withTerm, termLine, withRow, rowLine, refusalAfter, tailLine, verdictOf}
 use Rattle.walk.specs.Kept.{EachAfter, Each, Kept}
 use Rattle.walk.specs.Answers.{Section, in-heading, in-table, in-members, past-end, FormOf, term-form, row-form, count, tail-form, surplus as surplus-form, after-end, of-line}
-use Rattle.walk.proofs.RangeLaws.{Ranged, row-ranged, member-ranged, term-ranged}
+use Rattle.walk.proofs.RangeLaws.{Ranged, row-ranged, line-ranged, term-ranged}
 use Rattle.walk.proofs.FoldLaws.{Right, InOrder}
 
 -- ---- one item more
@@ -124,13 +124,13 @@ row-lawful h (found row) =
     }
 
 -- ---- a member, or the end
-tail-lawful : (h : Head) (members : List Member) (x : Tail) → ((m : Member) → x ≡ person m → length members < mostMembers) → Lawful (people h members) (tailLine h members x)
-tail-lawful h members (person m) room =
-    let more = each-next (personRefusal h) [] members m in
+tail-lawful : (h : Head) (members : List Member) (x : Tail) → ((m : Member) → x ≡ listed m → length members < mostMembers) → Lawful (people h members) (tailLine h members x)
+tail-lawful h members (listed m) room =
+    let more = each-next (refusalAfter h) [] members m in
     let low = room m refl in
     let long = length-append members (m ∷ []) in
     record {
-      ranged = member-ranged (planFrom (h .terms)) (h .rows) (lastId members) m;
+      ranged = line-ranged (planFrom (h .terms)) (h .rows) _ _ m;
       kept = (
         (λ k. let f = more .0 (k .members) in (record { terms = k .terms; rows = k .rows; members = f .0 }, f .1)),
         (λ f. record { terms = (f .0) .terms; rows = (f .0) .rows; members = more .1 ((f .0) .members, f .1) }),
@@ -154,17 +154,17 @@ tail-lawful h members surplus room = (refl, surplus-form)
 tail-lawful h members neither room = (refl, tail-form)
 
 -- with no room left no line is a member
-end-no-person : {A : Type 0} (x : Values) {m : Member} → endMade x ≡ person m → A
-end-no-person (found vs) e = let z : _≡_ {A = ℕ} 0 1 = cc in absurd (omega arith)
-end-no-person misread e = let z : _≡_ {A = ℕ} 0 1 = cc in absurd (omega arith)
+end-not-listed : {A : Type 0} (x : Values) {m : Member} → endMade x ≡ listed m → A
+end-not-listed (found vs) e = let z : _≡_ {A = ℕ} 0 1 = cc in absurd (omega arith)
+end-not-listed misread e = let z : _≡_ {A = ℕ} 0 1 = cc in absurd (omega arith)
 
-pub full-none : {A : Type 0} (line : List ℕ) (m : Member) → tailOf true line ≡ person m → A
+pub full-none : {A : Type 0} (line : List ℕ) (m : Member) → tailOf true line ≡ listed m → A
 unfolding tailOf
 full-none line m e = pick (startsOf (bytes "member=") line) (keyedOf (bytes "end=") wholeOf 0 line) e
   where
-    pick : {A : Type 0} (b : Bool) (x : Values) → cond b surplus (endMade x) ≡ person m → A
+    pick : {A : Type 0} (b : Bool) (x : Values) → cond b surplus (endMade x) ≡ listed m → A
     pick true x e = let z : _≡_ {A = ℕ} 0 1 = cc in absurd (omega arith)
-    pick false x e = end-no-person x e
+    pick false x e = end-not-listed x e
 
 -- ---- any line
 pub lawful : (state : State) (line ahead : List ℕ) → Lawful state (verdictOf state line ahead)
@@ -173,7 +173,7 @@ lawful (heading h) line ahead = term-lawful h (termForm (length (h .terms)) line
 lawful (table h) line ahead = row-lawful h (rowForm (dueAge (h .rows)) line)
 lawful (people h members) line ahead = tail-lawful h members (tailOf (leb mostMembers (length members)) line) (room (leb mostMembers (length members)) refl)
   where
-    room : (b : Bool) → leb mostMembers (length members) ≡ b → (m : Member) → tailOf b line ≡ person m → length members < mostMembers
+    room : (b : Bool) → leb mostMembers (length members) ≡ b → (m : Member) → tailOf b line ≡ listed m → length members < mostMembers
     room true e m is = full-none line m is
     room false e m is = leb-false mostMembers (length members) e
 lawful (ended h members) line ahead = (refl, after-end)

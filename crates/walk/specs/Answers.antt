@@ -7,10 +7,12 @@ use mathlib.Core.Logic.{_⊎_}
 use lib.ListN.{length, take}
 use Rattle.fields.specs.Split.{seekOf, hasOf, pastOf}
 use Rattle.rates.specs.Table.{ages}
-use Rattle.rules.specs.Refusals.{tooLarge, cutOff, bytesAfter, wrongCount, planForm, outOfRange, wrongAverage, wrongLastDeath, wrongWeight, memberForm, wrongId, wrongEntry, wrongAge, wrongSalary, highBenefit, surplusMember}
+use Rattle.rules.specs.Refusals.{tooLarge, cutOff, bytesAfter, wrongCount, planForm, outOfRange, wrongAverage, wrongLastDeath, wrongWeight, memberForm, wrongId, wrongEntry, wrongAge, wrongSalary, highBenefit, surplusMember, wrongPerson, highSum}
+use Rattle.plan.specs.declared.Member.{Member}
 use Rattle.walk.specs.Outcome.{values, refusal}
 use Rattle.walk.specs.Terms.{termForms}
 use Rattle.walk.specs.Lines.{mostMembers}
+use Rattle.walk.specs.Step.{Head, people, lastId, sumIn, step}
 use Rattle.walk.specs.Walk.{Case, walkOf}
 use Rattle.walk.specs.Kept.{AcceptedCase}
 
@@ -39,10 +41,12 @@ pub data RangeOf : Section → ℕ → Type 0 where
   of-death : RangeOf in-table wrongLastDeath
   of-weight : RangeOf in-table wrongWeight
   of-id : RangeOf in-members wrongId
+  of-person : RangeOf in-members wrongPerson
   of-entry : RangeOf in-members wrongEntry
   of-age : RangeOf in-members wrongAge
   of-salary : RangeOf in-members wrongSalary
   of-benefit : RangeOf in-members highBenefit
+  of-sum : RangeOf in-members highSum
 
 -- rule 5.1: the numbers of form; rule 12.3: those of ranges
 pub data FormNumber : ℕ → Type 0 where
@@ -79,6 +83,12 @@ through (suc n) s = take (seekOf 10 s + 1) s ++ through n (pastOf 10 s)
 abbrev pub RestsOnLines : Type 0
 RestsOnLines =
     (ranges : Bool) (s after : List ℕ) (n l : ℕ) → walkOf ranges s ≡ refusal n l → (n ≡ tooLarge → ⊥) → (n ≡ cutOff → hasOf 10 after ≡ false) → length (through l s ++ after) ≤ 65536 → walkOf ranges (through l s ++ after) ≡ refusal n l
+
+-- of the members before it, line k is judged by how many they are (rules 4.1 and 4.6), by the last id (rule 4.2) and by the sums of the persons'
+-- benefits (rule 7.10), and by nothing else: with other members that have these in common it gets the same refusal
+abbrev pub RestsOnIdAndSums : Type 0
+RestsOnIdAndSums =
+    (ranges : Bool) (k : ℕ) (h : Head) (some others : List Member) → length some ≡ length others → lastId some ≡ lastId others → ((person : ℕ) → sumIn h person some ≡ sumIn h person others) → (line ahead : List ℕ) (n l : ℕ) → step ranges k (people h some) line ahead ≡ refusal n l → step ranges k (people h others) line ahead ≡ refusal n l
 
 -- ---- reading
 -- rule 5.1: a refusal of reading has a number of form

@@ -5,10 +5,10 @@ use mathlib.Core.List.{List, [], _∷_, _++_}
 use lib.ListN.{length, getD}
 use Rattle.rates.specs.Table.{ages}
 use Rattle.plan.specs.declared.Member.{Member}
-use Rattle.acceptance.specs.Acceptance.{planRefusal, memberRefusal}
+use Rattle.acceptance.specs.Acceptance.{planRefusal, memberRefusal, personSum}
 use Rattle.walk.specs.Terms.{termRefusal}
 use Rattle.walk.specs.Lines.{rowRefusal, mostMembers}
-use Rattle.walk.specs.Step.{Head, State, heading, table, people, ended, personRefusal}
+use Rattle.walk.specs.Step.{Head, State, heading, table, people, ended, refusalAfter}
 use Rattle.walk.specs.Walk.{Case}
 
 -- each item keeps a rule that may look at the items before it
@@ -35,21 +35,23 @@ membersOf (ended h members) = members
 pub record Kept (state : State) : Type 0 where
   pub terms : Each termRefusal (headIn state .terms)
   pub rows : Each rowRefusal (headIn state .rows)
-  pub members : Each (personRefusal (headIn state)) (membersOf state)
+  pub members : Each (refusalAfter (headIn state)) (membersOf state)
 
 -- ---- a case, for those who value it
 -- no member: what stands past the last
 abbrev pub nobody : Member
-nobody = record { id = 0; entry = 0; age = 0; salary = 0 }
+nobody = record { id = 0; person = 0; entry = 0; age = 0; salary = 0 }
 
 -- rule 4.2: the id of the member before member j, 0 for the first
 abbrev pub idBefore : List Member → ℕ → ℕ
 idBefore l zero = 0
 idBefore l (suc j) = (getD l j nobody) .id
 
--- rule 5.2: every range rule is kept, by the plan with its rows and by each member after the one before it
+-- rule 5.2: every range rule is kept, by the plan with its rows, by each member after the one before it, and by each person: the benefits of all
+-- lines of one person, wherever they stand, sum to 1000000.00 at most (rule 7.10)
 pub record AcceptedCase (c : Case) : Type 0 where
   pub plan : planRefusal (c .plan) (c .rows) ≡ 0
   pub all-ages : length (c .rows) ≡ ages
   pub few : length (c .members) ≤ mostMembers
   pub member : (j : ℕ) → j < length (c .members) → memberRefusal (c .plan) (c .rows) (idBefore (c .members) j) (getD (c .members) j nobody) ≡ 0
+  pub persons : (person : ℕ) → personSum (c .plan) (c .rows) person (c .members) ≤ 100000000

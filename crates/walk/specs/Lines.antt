@@ -35,7 +35,7 @@ rowRefusal before row = firstOf (rowRules (dueAge before) (weightBefore before (
 -- ---- a member, or the end
 -- what a line after the rows is
 pub data Tail : Type 0 where
-  person : Member → Tail
+  listed : Member → Tail
   end : (count : ℕ) → Tail
   surplus : Tail
   neither : Tail
@@ -44,13 +44,14 @@ pub data Tail : Type 0 where
 abbrev pub mostMembers : ℕ
 mostMembers = 1000
 
--- rule 4.1: id, entry age, age and salary; rule 4.6: the count of members
+-- rule 4.1: id, person, entry age, age and salary; rule 4.6: the count of members
 abbrev pub memberFrom : List ℕ → Member
-memberFrom vs = record { id = getD vs 0 0; entry = getD vs 1 0; age = getD vs 2 0; salary = getD vs 3 0 }
+memberFrom vs =
+    record { id = getD vs 0 0; person = getD vs 1 0; entry = getD vs 2 0; age = getD vs 3 0; salary = getD vs 4 0 }
 
-abbrev pub personMade : Values → Tail
-personMade (found vs) = person (memberFrom vs)
-personMade misread = neither
+abbrev pub listedMade : Values → Tail
+listedMade (found vs) = listed (memberFrom vs)
+listedMade misread = neither
 
 abbrev pub endMade : Values → Tail
 endMade (found vs) = end (getD vs 0 0)
@@ -60,5 +61,5 @@ endMade misread = neither
 unfoldable pub tailOf : (full : Bool) → List ℕ → Tail
 tailOf full line =
     cond (startsOf (bytes "member=") line)
-    (cond full surplus (personMade (keyedOf (bytes "member=") amountOf 3 line)))
+    (cond full surplus (listedMade (keyedOf (bytes "member=") amountOf 4 line)))
     (endMade (keyedOf (bytes "end=") wholeOf 0 line))

@@ -9,10 +9,10 @@ use Rattle.rates.specs.Table.{ages}
 use Rattle.plan.specs.declared.Member.{Member}
 use Rattle.rules.specs.Refusals.{bytesAfter, wrongCount, planForm, memberForm, surplusMember}
 use Rattle.rules.specs.Heading.{planFrom}
-use Rattle.acceptance.specs.Acceptance.{memberRefusal}
+use Rattle.acceptance.specs.Acceptance.{personSum, lineRefusal}
 use Rattle.walk.specs.Outcome.{Outcome, values, refusal, passing, settled}
 use Rattle.walk.specs.Terms.{termForms, termForm, termRefusal}
-use Rattle.walk.specs.Lines.{rowForm, dueAge, rowRefusal, Tail, person, end, surplus, neither, mostMembers, tailOf}
+use Rattle.walk.specs.Lines.{rowForm, dueAge, rowRefusal, Tail, listed, end, surplus, neither, mostMembers, tailOf}
 
 -- what the lines before the members hold
 pub record Head : Type 0 where
@@ -61,11 +61,16 @@ lastId [] = 0
 lastId (m ∷ []) = m .id
 lastId (m ∷ n ∷ l) = lastId (n ∷ l)
 
-abbrev pub personRefusal : Head → (before : List Member) → Member → ℕ
-personRefusal h before m = memberRefusal (planFrom (h .terms)) (h .rows) (lastId before) m
+-- rule 7.10: the benefits of a person among some members, by what the lines before them hold
+abbrev pub sumIn : Head → (person : ℕ) → List Member → ℕ
+sumIn h = personSum (planFrom (h .terms)) (h .rows)
+
+-- what the rules refuse of a member after those before it
+abbrev pub refusalAfter : Head → (before : List Member) → Member → ℕ
+refusalAfter h before m = lineRefusal (planFrom (h .terms)) (h .rows) (lastId before) (sumIn h (m .person) before) m
 
 abbrev pub tailLine : Head → (members : List Member) → Tail → Verdict
-tailLine h members (person m) = right (personRefusal h members m) (people h (members ++ m ∷ []))
+tailLine h members (listed m) = right (refusalAfter h members m) (people h (members ++ m ∷ []))
 tailLine h members (end n) = cond (eqb n (length members)) (right 0 (ended h members)) (wrong 0 wrongCount)
 tailLine h members surplus = wrong 0 surplusMember
 tailLine h members neither = wrong 0 memberForm

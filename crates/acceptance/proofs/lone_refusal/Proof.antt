@@ -1,9 +1,12 @@
 -- `acceptance::lone_refusal` meets its contract.
 use native.Mathlib.Omega.{arith}
-use mathlib.Core.Path.{sym, _∙_}
+use mathlib.Core.Path.{_≡_, sym, ap, _∙_}
 use mathlib.Core.List.{_∷_, []}
-use Rattle.acceptance.specs.Acceptance.{planRefusal, memberRefusal, loneRefusal}
+use borrow.Author.Needs.{needs}
+use Rattle.acceptance.specs.Acceptance.{planRefusal, memberRefusal, lineRefusal, loneRefusal}
 use Rattle.rules.proofs.RuleLaws.{first-refuses, first-passes, first-alone}
+use Rattle.acceptance.proofs.Facts.{is-benefit, is-refused}
+use Rattle.acceptance.proofs.LoneLaws.{first-line-own}
 use Rattle.acceptance.proofs.lone_refusal.Statement.{statement}
 use Rattle.acceptance.proofs.lone_refusal.Tie as tie
 
@@ -12,15 +15,20 @@ unfolding loneRefusal
 returns c =
     let a = c .before .before .args in
     let e = c .before .plan-refusal .ensures in
-    e ∙ sym (first-refuses (planRefusal (a .p) (a .t2)) (memberRefusal (a .p) (a .t2) 0 (a .m) ∷ []) (λ z. c .if1 .taken (e ∙ z)))
+    e ∙ sym (first-refuses (planRefusal (a .p) (a .t2)) (lineRefusal (a .p) (a .t2) 0 0 (a .m) ∷ []) (λ z. c .if1 .taken (e ∙ z)))
 
-returns-2 : tie.Need-returns-2
+-- after an accepted plan, the member's own refusal
+own : (c : tie.After-member-benefit) → let a = c .before .before .before .before .args in memberRefusal (a .p) (a .t2) 0 (a .m) ≡ loneRefusal (a .p) (a .t2) (a .m)
 unfolding loneRefusal
-returns-2 c =
+own c =
     let a = c .before .before .before .before .args in
+    let line = lineRefusal (a .p) (a .t2) 0 0 (a .m) in
     let kept = sym (c .before .before .before .plan-refusal .ensures) ∙ c .before .before .if1 .left in
-    c .member-refusal .ensures
-    ∙ sym (first-passes (planRefusal (a .p) (a .t2)) (memberRefusal (a .p) (a .t2) 0 (a .m) ∷ []) kept ∙ first-alone (memberRefusal (a .p) (a .t2) 0 (a .m)))
+    sym (first-passes (planRefusal (a .p) (a .t2)) (line ∷ []) kept ∙ first-alone line ∙ first-line-own (a .p) (a .t2) 0 (a .m))
 
 pub lone-refusal-spec : {M : Type 1} → statement M
-lone-refusal-spec = tie.close (tie.spec (search) returns (omega arith) returns-2)
+lone-refusal-spec =
+    tie.close
+    (tie.spec (search) returns (omega arith) (λ c. search needs) (λ c. search needs)
+    (λ c. let m = c .before .before in sym (is-benefit _ _ (sym (c .enum-told .given .1) ∙ m .member-benefit .ensures) .0) ∙ own m)
+    (λ c. let m = c .before .before .before in is-refused _ _ (sym (c .before .number .given .1) ∙ m .member-benefit .ensures) .0 ∙ own m))

@@ -5,16 +5,16 @@ use lib.ListN.{length}
 use native.Mathlib.Omega.{arith}
 use borrow.Author.Needs.{needs}
 use Rattle.members.specs.Stretch.{MembersAre}
-use Rattle.members.proofs.MemberLaws.{MembersRead, members-none, members-cut, members-surplus, members-neither, end-place, end-size, members-end, person-place, room, members-refused, members-next}
+use Rattle.members.proofs.MemberLaws.{MembersRead, members-none, members-cut, members-surplus, members-neither, end-place, end-size, members-end, listed-place, room, members-refused, members-next}
 use Rattle.members.proofs.member_lines.Statement.{statement}
 use Rattle.members.proofs.member_lines.Tie as tie
 
 abbrev Inv-loop : tie.InvT-loop
-Inv-loop s first ranges p rows members₀ values₀ at₀ count₀ before₀ members values at count before =
-    MembersRead ranges p rows first s members at count before
+Inv-loop s first ranges p rows members₀ cells₀ sums₀ values₀ at₀ count₀ before₀ members cells sums values at count before =
+    MembersRead ranges p rows first s members cells sums at count before
 
 abbrev μ-loop : tie.MeasureT-loop
-μ-loop s first ranges p rows members₀ values₀ at₀ count₀ before₀ members values at count before = 1000 - count
+μ-loop s first ranges p rows members₀ cells₀ sums₀ values₀ at₀ count₀ before₀ members cells sums values at count before = 1000 - count
 
 pub member-lines-spec : {M : Type 1} → statement M
 unfolding MembersAre
@@ -26,15 +26,15 @@ member-lines-spec =
     (λ c κs. search needs)
     (λ c. search needs)
     (λ c κs. search needs)
-    (λ c κs. c .before .before .before .before .before .before .before .before .before .before .before .pre .0)
-    (λ c. members-refused (c .before .before .before .before .before .before .before .before .before .before .loop .inv) (c .before .before .before .before .before .before .before .tail-line .last .1 .1 .0) (c .before .before .before .before .before .before .before .before .before .from .ensures) (c .before .before .before .before .before .before .before .tail-line .ensures) (c .before .before .before .before .before .e .given .1) (c .before .before .member-from .ensures) (c .before .person-refusal .ensures) (c .if1 .taken))
+    (λ c κs. (c .before .before .before .before .before .before .before .before .before .before .before .before .before .pre .0, room (c .before .before .before .before .before .before .before .before .before .before .loop .inv) (c .before .before .before .before .before .before .before .tail-line .last .1 .1 .0) (c .before .before .before .before .before .before .before .before .before .from .ensures) (c .before .before .before .before .before .before .before .tail-line .ensures) (c .before .before .before .before .before .e .given .1), c .before .before .before .before .before .before .before .before .before .before .loop .inv .rooted))
+    (λ c. members-refused (c .before .before .before .before .before .before .before .before .before .before .before .before .loop .inv) (c .before .before .before .before .before .before .before .before .before .tail-line .last .1 .1 .0) (c .before .before .before .before .before .before .before .before .before .before .before .from .ensures) (c .before .before .before .before .before .before .before .before .before .tail-line .ensures) (c .before .before .before .before .before .before .before .e .given .1) (c .before .before .before .before .member-from .ensures) (c .before .line-refusal .ensures .0) (c .if1 .taken))
     (λ c. search needs)
-    (λ c. room (c .before .before .before .before .before .before .before .before .before .before .loop .inv) (c .before .before .before .before .before .before .before .tail-line .last .1 .1 .0) (c .before .before .before .before .before .before .before .before .before .from .ensures) (c .before .before .before .before .before .before .before .tail-line .ensures) (c .before .before .before .before .before .e .given .1))
-    (λ c. omega (arith, person-place (c .before .before .before .before .before .before .before .before .before .before .loop .inv) (c .before .before .before .before .before .before .before .tail-line .last .1 .1 .0) (c .before .before .before .before .before .before .before .before .before .from .ensures) (c .before .before .before .before .before .before .before .tail-line .ensures) (c .before .before .before .before .before .e .given .1)))
-    (λ c. omega (arith, person-place (c .before .before .before .before .before .before .before .before .before .before .loop .inv) (c .before .before .before .before .before .before .before .tail-line .last .1 .1 .0) (c .before .before .before .before .before .before .before .before .before .from .ensures) (c .before .before .before .before .before .before .before .tail-line .ensures) (c .before .before .before .before .before .e .given .1)))
-    (λ c. omega (arith, c .before .before .before .before .before .before .before .before .before .before .loop .inv .few))
-    (λ c. omega (arith, room (c .before .before .before .before .before .before .before .before .before .before .loop .inv) (c .before .before .before .before .before .before .before .tail-line .last .1 .1 .0) (c .before .before .before .before .before .before .before .before .before .from .ensures) (c .before .before .before .before .before .before .before .tail-line .ensures) (c .before .before .before .before .before .e .given .1)))
-    (λ c. members-next (c .before .before .before .before .before .before .before .before .before .before .loop .inv) (c .before .before .before .before .before .before .before .tail-line .last .1 .1 .0) (c .before .before .before .before .before .before .before .before .before .from .ensures) (c .before .before .before .before .before .before .before .tail-line .ensures) (c .before .before .before .before .before .e .given .1) (c .before .before .member-from .ensures) (c .before .person-refusal .ensures) (c .if1 .left) refl)
+    (λ c. room (c .before .before .before .before .before .before .before .before .before .before .before .before .loop .inv) (c .before .before .before .before .before .before .before .before .before .tail-line .last .1 .1 .0) (c .before .before .before .before .before .before .before .before .before .before .before .from .ensures) (c .before .before .before .before .before .before .before .before .before .tail-line .ensures) (c .before .before .before .before .before .before .before .e .given .1))
+    (λ c. omega (arith, listed-place (c .before .before .before .before .before .before .before .before .before .before .before .before .loop .inv) (c .before .before .before .before .before .before .before .before .before .tail-line .last .1 .1 .0) (c .before .before .before .before .before .before .before .before .before .before .before .from .ensures) (c .before .before .before .before .before .before .before .before .before .tail-line .ensures) (c .before .before .before .before .before .before .before .e .given .1)))
+    (λ c. omega (arith, listed-place (c .before .before .before .before .before .before .before .before .before .before .before .before .loop .inv) (c .before .before .before .before .before .before .before .before .before .tail-line .last .1 .1 .0) (c .before .before .before .before .before .before .before .before .before .before .before .from .ensures) (c .before .before .before .before .before .before .before .before .before .tail-line .ensures) (c .before .before .before .before .before .before .before .e .given .1)))
+    (λ c. omega (arith, c .before .before .before .before .before .before .before .before .before .before .before .before .loop .inv .few))
+    (λ c. omega (arith, room (c .before .before .before .before .before .before .before .before .before .before .before .before .loop .inv) (c .before .before .before .before .before .before .before .before .before .tail-line .last .1 .1 .0) (c .before .before .before .before .before .before .before .before .before .before .before .from .ensures) (c .before .before .before .before .before .before .before .before .before .tail-line .ensures) (c .before .before .before .before .before .before .before .e .given .1)))
+    (λ c. members-next (c .before .before .before .before .before .before .before .before .before .before .before .before .loop .inv) (c .before .before .before .before .before .before .before .before .before .tail-line .last .1 .1 .0) (c .before .before .before .before .before .before .before .before .before .before .before .from .ensures) (c .before .before .before .before .before .before .before .before .before .tail-line .ensures) (c .before .before .before .before .before .before .before .e .given .1) (c .before .before .before .before .member-from .ensures) (c .before .line-refusal .ensures .0) (c .if1 .left) refl (c .before .line-refusal .ensures .1 .0 (c .if1 .left)) (c .before .line-refusal .ensures .1 .1 (c .if1 .left)))
     (λ c. search needs)
     (λ c. omega (arith, end-place (c .before .before .before .before .before .before .loop .inv) (c .before .before .before .tail-line .last .1 .1 .0) (c .before .before .before .before .before .from .ensures) (c .before .before .before .tail-line .ensures) (c .before .e2 .given .1)))
     (λ c. omega (arith, end-place (c .before .before .before .before .before .before .loop .inv) (c .before .before .before .tail-line .last .1 .1 .0) (c .before .before .before .before .before .from .ensures) (c .before .before .before .tail-line .ensures) (c .before .e2 .given .1)))

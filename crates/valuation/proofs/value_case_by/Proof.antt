@@ -15,7 +15,7 @@ abbrev zero-rows : List (List ℕ)
 zero-rows = replicate 106 (replicate 4 0)
 
 abbrev no-members : List (List ℕ)
-no-members = replicate 1000 (replicate 4 0)
+no-members = replicate 1000 (replicate 5 0)
 
 value-accepted-requires : tie.Need-value-accepted-requires
 value-accepted-requires c κs =
