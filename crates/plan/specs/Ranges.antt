@@ -37,7 +37,7 @@ pub record InRange (p : Plan) (m : Member) : Type 0 where
   pub not-past : m .age ≤ p .retire
   pub paid : m .salary ≤ 100000000
 
--- such a member of such a plan, that keeps rule 7.8 too; its id plays no part in the figures
+-- such a member of such a plan, that keeps rule 7.8 too; its id and its person play no part in the figures
 pub record MemberRanges (p : Plan) (rows : List (List ℕ)) (m : Member) : Type 0 where
   pub plan : PlanRanges p rows
   pub in-range : InRange p m
