@@ -26,7 +26,7 @@
  *     24  the salary is over 1000000.00 a year
  *     25  the benefit is over 1000000.00 a year
  *     27  a member line after 1,000 members
- *     28  the person's number is outside its range
+ *     28  the person's number isn't between 1 and 999999999
  *     29  the benefits of this person's lines so far sum to over 1000000.00 a year
  *   the calling program mends:
  *     30  what is to be printed is longer than the buffer
@@ -84,10 +84,10 @@ uint64_t kuyeshan_refusal_line(uint64_t number, uint64_t line, uint8_t *out, siz
  *   member    id, person, entry age, age, salary in cents a year
  *   figures   in whole cents, halfway to the even cent (rule 6.1): the yearly benefit, its present value, the
  *             normal cost, the liability
- * 0, or the first refusal, from 10 on, which leaves `figures` as they were. It is never 29, since a lone member has no lines
- * before it (rule 5.5). A program that was written before `plan` had pay, with eight numbers, or before `member` had person,
- * with four, must be changed and built again: the function's name is the same, and so is its type, since pointers are what
- * is passed. No compiler has to notice. */
+ * 0, or the first refusal, from 10 on, which leaves `figures` as they were. It is never 29: to a lone member's benefit
+ * nothing is added, and 25 asks for it first (rule 5.5). A program that was written before `plan` had pay, with eight
+ * numbers, or before `member` had person, with four, must be changed and built again: the function's name is the same, and
+ * so is its type, since pointers are what is passed. No compiler has to notice. */
 uint64_t kuyeshan_value_member(const uint64_t plan[9], const uint32_t rows[424], const uint64_t member[5],
                                uint64_t figures[4]);
 

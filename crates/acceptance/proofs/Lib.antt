@@ -1,4 +1,4 @@
 -- What accepting shows.
 pub mod Facts
-pub mod LoneLaws
 pub mod SumLaws
+pub mod LoneLaws

@@ -17,13 +17,18 @@ use Rattle.rules.proofs.RuleLaws.{first-refuses}
 use Rattle.acceptance.specs.Acceptance.{planRefusal, fieldRules, benefitRules, memberRefusal, lineRefusal, loneRefusal}
 use Rattle.acceptance.specs.Lone.{First-Line-By-Its-Own, Lone-Never-29}
 use Rattle.acceptance.proofs.Facts.{own-capped, line-refused, line-summed}
+use Rattle.acceptance.proofs.SumLaws.{sum-absent}
 
-pub first-line-own : First-Line-By-Its-Own
-first-line-own p rows before m = pick (memberRefusal p rows before m) refl
+-- where nothing is summed yet
+pub own-alone : (p : Plan) (rows : List (List ℕ)) (before : ℕ) (m : Member) → lineRefusal p rows before 0 m ≡ memberRefusal p rows before m
+own-alone p rows before m = pick (memberRefusal p rows before m) refl
   where
     pick : (n : ℕ) → memberRefusal p rows before m ≡ n → lineRefusal p rows before 0 m ≡ memberRefusal p rows before m
     pick zero e = line-summed p rows before 0 m e ∙ rw (zero-add (B p rows m (p .retire)), own-capped p rows before m e) (sym e)
     pick (suc n) e = line-refused p rows before 0 m (λ z. omega arith)
+
+pub first-line-own : First-Line-By-Its-Own
+first-line-own p rows before l m absent = rw (sum-absent p rows (m .person) l absent) (own-alone p rows before m)
 
 -- ---- none of some rules gives 29
 abbrev Others : List ℕ → Type 0
@@ -104,4 +109,4 @@ member-other p rows before m =
 pub lone-never-29 : Lone-Never-29
 unfolding loneRefusal
 lone-never-29 p rows m =
-    others (planRefusal p rows ∷ lineRefusal p rows 0 0 m ∷ []) (plan-other p rows, ((λ e. member-other p rows 0 m (sym (first-line-own p rows 0 m) ∙ e)), tt))
+    others (planRefusal p rows ∷ lineRefusal p rows 0 0 m ∷ []) (plan-other p rows, ((λ e. member-other p rows 0 m (sym (own-alone p rows 0 m) ∙ e)), tt))

@@ -1,12 +1,16 @@
 -- Accepting a plan, its rows and a member handed in as plain values: rule 5.3, the range rules in the order of the lines. Cents for money.
-use mathlib.Core.Bool.{cond, _&&_}
+use mathlib.Core.Path.{_≡_, refl}
+use mathlib.Core.Bool.{true, cond, _&&_}
 use mathlib.Core.List.{List, [], _∷_, _++_}
 use Prim.Native.Nat.{ℕ, _+_}
 use lib.Dec.{leb, ltb, eqb}
+use Rattle.rounding.specs.Nearest.{nearest}
+use Rattle.fractions.specs.Ratio.{_over_, whole}
+use Rattle.rates.specs.ByHand.{Figure, _is_, all-are}
 use Rattle.rates.specs.Table.{firstAge, ages}
 use Rattle.plan.specs.declared.Plan.{Plan}
 use Rattle.plan.specs.declared.Member.{Member}
-use Rattle.plan.specs.Benefit.{B}
+use Rattle.plan.specs.Benefit.{formulaOf, exactBenefit, B}
 use Rattle.rules.specs.Refusals.{wrongId, wrongPerson, wrongEntry, wrongAge, wrongSalary, highBenefit, highSum}
 use Rattle.rules.specs.Rules.{unless, firstOf, between}
 use Rattle.rules.specs.Heading.{headRules}
@@ -51,6 +55,33 @@ personSum p rows person (m ∷ l) = cond (eqb (m .person) person) (B p rows m (p
 unfoldable pub lineRefusal : Plan → List (List ℕ) → (before sum : ℕ) → Member → ℕ
 lineRefusal p rows before sum m =
     firstOf (memberRefusal p rows before m ∷ unless (leb (sum + B p rows m (p .retire)) 100000000) highSum ∷ [])
+
+-- both computed: a flat plan of 100.00 for each year, retirement at 65
+abbrev flat : Plan
+flat = record { interest = 0; retire = 65; pay = 1; formula = 1; unit = 10000; average = 0; method = 1; assets = 0; years = 1 }
+
+-- a person from an entry age on, now 60
+abbrev spell : (person entry : ℕ) → Member
+spell person entry = record { id = 7; person = person; entry = entry; age = 60; salary = 0 }
+
+unfoldable pub sum-figures : List Figure
+sum-figures =
+    -- 10 years and 30 years of person 1, with 20 of person 2 between them
+    (personSum flat [] 1 (spell 1 55 ∷ spell 2 45 ∷ spell 1 35 ∷ []) is 400000)
+    ∷ (personSum flat [] 2 (spell 1 55 ∷ spell 2 45 ∷ spell 1 35 ∷ []) is 200000)
+    ∷ (personSum flat [] 3 (spell 1 55 ∷ spell 2 45 ∷ spell 1 35 ∷ []) is 0)
+    -- to the ceiling, and a cent above it
+    ∷ (lineRefusal flat [] 6 99900000 (spell 1 55) is 0)
+    ∷ (lineRefusal flat [] 6 99900001 (spell 1 55) is 29)
+    -- the line's own rules come first: 21, 28, 22
+    ∷ (lineRefusal flat [] 7 99900001 (spell 0 14) is 21)
+    ∷ (lineRefusal flat [] 6 99900001 (spell 0 14) is 28)
+    ∷ (lineRefusal flat [] 6 99900001 (spell 1 14) is 22)
+    ∷ []
+
+pub sums-are : all-are sum-figures ≡ true
+unfolding sum-figures nearest _over_ whole formulaOf exactBenefit B fieldRules benefitRules memberRefusal personSum lineRefusal
+sums-are = refl
 
 -- ---- the answers
 -- a member's own refusal, or its B(r)

@@ -5,14 +5,19 @@ use Prim.Native.Nat.{ℕ}
 use Rattle.plan.specs.declared.Plan.{Plan}
 use Rattle.plan.specs.declared.Member.{Member}
 use Rattle.rules.specs.Refusals.{highSum}
-use Rattle.rules.specs.Rules.{firstOf}
-use Rattle.acceptance.specs.Acceptance.{planRefusal, memberRefusal, lineRefusal, loneRefusal}
+use Rattle.acceptance.specs.Acceptance.{memberRefusal, personSum, lineRefusal, loneRefusal}
 
--- where a person has no benefit so far, the line's own rules say all
+-- none of some members is the person
+abbrev pub Absent : (person : ℕ) → List Member → Type 0
+Absent person [] = Unit {0}
+Absent person (m ∷ l) = (m .person ≡ person → ⊥) × Absent person l
+
+-- at a person's first line its own rules say all
 abbrev pub First-Line-By-Its-Own : Type 0
 First-Line-By-Its-Own =
-    (p : Plan) (rows : List (List ℕ)) (before : ℕ) (m : Member) → lineRefusal p rows before 0 m ≡ memberRefusal p rows before m
+    (p : Plan) (rows : List (List ℕ)) (before : ℕ) (l : List Member) (m : Member) → Absent (m .person) l
+    → lineRefusal p rows before (personSum p rows (m .person) l) m ≡ memberRefusal p rows before m
 
--- so whatever the numbers of a lone member are, its answer isn't 29
+-- and whatever the numbers of a lone member are, its answer isn't 29
 abbrev pub Lone-Never-29 : Type 0
 Lone-Never-29 = (p : Plan) (rows : List (List ℕ)) (m : Member) → loneRefusal p rows m ≡ highSum → ⊥

@@ -66,10 +66,8 @@ fn fields_refusal(p: Plan, before: u64, m: Member) -> u64
     let salary = unless(m.salary <= 100_000_000, WRONG_SALARY);
     let age = or_else(unless_between(m.entry, p.retire, m.age, WRONG_AGE), salary);
     let entry = or_else(entry_rule(p.retire, m.entry), age);
-    let person = or_else(
-        unless_between(1, 999_999_999, m.person, WRONG_PERSON),
-        entry,
-    );
+    let numbered = unless_between(1, 999_999_999, m.person, WRONG_PERSON);
+    let person = or_else(numbered, entry);
     or_else(id_rule(before, m.id), person)
 }
 

@@ -25,13 +25,13 @@ abbrev pub idBeforeAt : List (List ℕ) → ℕ → ℕ
 idBeforeAt a zero = 0
 idBeforeAt a (suc j) = (memberAt a j) .id
 
--- what the rules say of the two arrays of an accepted case: what one who values the plan starts from
+-- what the rules say of the two arrays of an accepted case, but for rule 7.10, which no figure needs: what one who values the plan starts from
 pub record AcceptedArrays (p : Plan) (n : ℕ) (rows members : List (List ℕ)) : Type 0 where
   pub plan : planRefusal p rows ≡ 0
   pub few : n ≤ mostMembers
   pub member : (j : ℕ) → j < n → memberRefusal p rows (idBeforeAt members j) (memberAt members j) ≡ 0
 
--- where accept_case answers Accepted p n, its two arrays hold an accepted plan's rows and n members, each accepted after the one before it
+-- where accept_case answers Accepted p n, its two arrays hold an accepted plan's rows and n members, each of which keeps its own rules after the one before it
 abbrev pub AcceptedFillsArrays : Type 0
 AcceptedFillsArrays =
     (s : List ℕ) (p : Plan) (n : ℕ) (rows oldRows members oldMembers : List (List ℕ)) → Accepted p n ≡ accepting (acceptingOf s) → rows ≡ rowsAfter (acceptingOf s) oldRows → members ≡ membersAfter (acceptingOf s) oldMembers → AcceptedArrays p n rows members

@@ -51,7 +51,7 @@ pay-plan formula average =
 abbrev benefit : ℕ → ℕ → ℕ → ℕ
 benefit formula average k = B (pay-plan formula average) short (record { id = 7; person = 1; entry = 63; age = 64; salary = 1000000 }) k
 
--- rule 14.17, a benefit that lies halfway between the largest that is accepted and a cent more
+-- rules 14.17 and 14.24, a benefit that lies halfway between the largest that is accepted and a cent more
 abbrev ceiling-plan : Plan
 ceiling-plan =
     record { interest = 1000; retire = 60; pay = 1; formula = 3; unit = 500; average = 1; method = 4; assets = 2000; years = 2 }
@@ -110,6 +110,15 @@ member-figures =
     ∷ (B ceiling-plan short (ceiling-member 66666667) 60 is 100000000)
     ∷ (loneRefusal ceiling-plan short (ceiling-member 66666667) is 0)
     ∷ (loneRefusal ceiling-plan short (ceiling-member 66666668) is 25)
+    ∷ (B ceiling-plan short (ceiling-member 33333333) 60 is 50000000)
+    ∷ (B ceiling-plan short (ceiling-member 33333334) 60 is 50000001)
+    ∷ (B ceiling-plan short (ceiling-member 33333335) 60 is 50000002)
+    ∷ (B ceiling-plan short (ceiling-member 33333332) 60 is 49999998)
+    ∷ (B ceiling-plan short (ceiling-member 1) 60 is 2)
+    ∷ (lineRefusal ceiling-plan short 0 50000000 (ceiling-member 33333333) is 0)
+    ∷ (lineRefusal ceiling-plan short 0 50000000 (ceiling-member 33333334) is 29)
+    ∷ (lineRefusal ceiling-plan short 0 50000002 (ceiling-member 33333332) is 0)
+    ∷ (lineRefusal ceiling-plan short 0 100000000 (ceiling-member 1) is 29)
     ∷ []
 
 pub figures-are : all-are member-figures ≡ true

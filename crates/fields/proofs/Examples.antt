@@ -57,27 +57,27 @@ numbers-are =
     }
 
 -- ---- lines of values
--- rule 4.1: three whole numbers and an amount
+-- rule 4.1: four whole numbers and an amount
 abbrev member : String → Values
-member text = keyedOf (bytes "member=") amountOf 3 (bytes text)
+member text = keyedOf (bytes "member=") amountOf 4 (bytes text)
 
 -- rule 3.1: an age, three rates and a weight
 abbrev row : String → Values
 row text = keyedOf (bytes "row=") wholeOf 4 (bytes text)
 
 pub record Lines : Type 0 where
-  pub of-a-member : member "member=7,63,64,0.00" ≡ found (7 ∷ 63 ∷ 64 ∷ 0 ∷ [])
+  pub of-a-member : member "member=7,1,63,64,0.00" ≡ found (7 ∷ 1 ∷ 63 ∷ 64 ∷ 0 ∷ [])
   pub of-a-row : row "row=65,1000000,0,0,1100" ≡ found (65 ∷ 1000000 ∷ 0 ∷ 0 ∷ 1100 ∷ [])
   -- rule 1.6: a value reaches to the next comma, so none is missing and none is left over
-  pub comma-too-few : member "member=7,63,640.00" ≡ misread
-  pub comma-too-many : member "member=7,63,64,0,0.00" ≡ misread
+  pub comma-too-few : member "member=7,1,63,640.00" ≡ misread
+  pub comma-too-many : member "member=7,1,63,64,0,0.00" ≡ misread
   pub row-too-short : row "row=65,1000000,0,1100" ≡ misread
   pub row-too-long : row "row=65,1000000,0,0,1100,0" ≡ misread
-  pub nothing-between : member "member=7,,64,0.00" ≡ misread
+  pub nothing-between : member "member=7,,63,64,0.00" ≡ misread
   pub nothing-after : row "row=65,1000000,0,0," ≡ misread
   -- rule 14.14
-  pub tail : member "member=7,63,64,4125.50.75" ≡ misread
-  pub other-key : member "Member=7,63,64,0.00" ≡ misread
+  pub tail : member "member=7,1,63,64,4125.50.75" ≡ misread
+  pub other-key : member "Member=7,1,63,64,0.00" ≡ misread
 
 pub lines-are : Lines
 unfolding hasOf uptoOf pastOf digitsOf wholeOf amountOf valuesOf keyedOf

@@ -111,7 +111,8 @@ fn member_from(values: &Read) -> Member
 }
 
 // The range rules of a member after `count` others, where the ranges are settled: a number, 0 for none. Where none refuses it
-// its benefit is added to its person's. After a refusal the sums are left open.
+// its benefit is added to its person's. After a refusal cells and sums are left open, and so is what they hold where the ranges
+// aren't settled.
 fn line_refusal(
     ranges: bool,
     p: Plan,

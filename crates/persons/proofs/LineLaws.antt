@@ -3,16 +3,15 @@ use Prim.Native.Nat.{ℕ, zero, suc, _+_, _-_, _*_, _≤_, _<_}
 use mathlib.Core.Path.{_≡_, refl, sym, ap, subst, _∙_}
 use mathlib.Core.List.{List, [], _∷_}
 use mathlib.Core.Bool.{Bool, true, false, cond}
-use mathlib.Core.Logic.{_⊎_, inl, inr, ⊎-elim}
-use lib.ListN.{length, getD, set, replicate, length-set, length-replicate}
+use mathlib.Core.Logic.{_⊎_, inl, inr}
+use lib.ListN.{getD, set, replicate, length-set, length-replicate}
 use lib.Seq.{getD-set-same, getD-set-other}
 use lib.Dec.{leb, eqb}
 use native.Mathlib.Omega.{arith}
-use native.Mathlib.Nat.{eq-or-lt-of-le}
 use borrow.Author.Tests.{le-leb, lt-leb, eqb-true, eqb-false}
 use Rattle.rules.specs.Rules.{unless}
 use Rattle.persons.specs.Held.{holdsFor, held, personAt, sumAt}
-use Rattle.persons.specs.Search.{lineIn, stopsAt, Found, Searchable, Known, Rooted}
+use Rattle.persons.specs.Search.{lineIn, Found, Known, Rooted}
 use Rattle.persons.proofs.HeldLaws.{held-set, held-none, held-one}
 use Rattle.persons.proofs.SearchLaws.{stops-there, stopped, found-one, found-stops, found-low, found-still, still-there}
 

@@ -1,13 +1,13 @@
-// Rule 7.10: the benefits of each person, summed over the member lines so far. A line's person is found by its number, in a
-// few steps whatever the numbers are, and not by going through the lines before it: specs/Held.antt has what the lines before
-// it hold for a person, and the contract of `add` is an equation with that. specs/Search.antt has the way to a person.
+// Rule 7.10: the benefits of each person, summed. A person is found by its number, in a few steps whatever the numbers are,
+// and not by going through the lines before: specs/Held.antt has what is held for a person, as a scan, and the contract of
+// `add` is an equation with that. specs/Search.antt has the way to a person. That what is held is the sum over the lines
+// before is for the loop over the lines to show (crate `members`).
 use plan::MOST_MEMBERS;
 use rules::refusals::HIGH_SUM;
 ghost use mathlib.Core.Path.{_≡_};
 ghost use mathlib.Core.Bool.{cond};
 ghost use Prim.Native.Nat.{ℕ, _+_, _≤_, _<_};
 ghost use lib.Dec.{leb, eqb};
-ghost use lib.ListN.{getD};
 ghost use Rattle.rules.specs.Refusals.{highSum};
 ghost use Rattle.rules.specs.Rules.{unless as Rules·unless};
 ghost use Rattle.persons.specs.Held.{held};
@@ -16,8 +16,8 @@ ghost use Rattle.persons.specs.Search.{stopsAt, branch, Searchable, Foun
 // A search begins at one of so many cells, by the last 12 bits of the person's number.
 const HOMES: usize = 4_096;
 
-// And two cells for each line, to go on from a line by the next bit of the number. Those of line 0 stay empty: lines are counted
-// from 1, so that 0 is none.
+// And two cells for each line, to go on from a line by the next bit of the number: 4,096 + 2 × 1,001. Those of line 0 stay
+// empty: lines are counted from 1, so that 0 is none.
 pub const CELLS: usize = 6_098;
 
 // A cell is empty, or holds the line at which a person came first.

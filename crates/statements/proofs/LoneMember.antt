@@ -11,7 +11,7 @@ use Rattle.plan.specs.declared.Plan.{Plan}
 use Rattle.plan.specs.declared.Member.{Member}
 use Rattle.rules.specs.Rules.{unless, firstOf, between}
 use Rattle.acceptance.specs.Acceptance.{planRefusal, fieldRules, benefitRules, memberRefusal, lineRefusal, loneRefusal}
-use Rattle.acceptance.proofs.LoneLaws.{first-line-own}
+use Rattle.acceptance.proofs.LoneLaws.{own-alone}
 use Rattle.rules.proofs.RuleLaws.{all-kept}
 use Rattle.rules.proofs.RuleLaws.{first-passes, first-alone}
 
@@ -39,4 +39,4 @@ module _ (p : Plan) (rows : List (List ℕ)) (before : ℕ) (m : Member) where
   unfolding loneRefusal
   accepted-alone plan member =
       let line = lineRefusal p rows 0 0 m in
-      first-passes (planRefusal p rows) (line ∷ []) plan ∙ first-alone line ∙ first-line-own p rows 0 m ∙ no-id-before member
+      first-passes (planRefusal p rows) (line ∷ []) plan ∙ first-alone line ∙ own-alone p rows 0 m ∙ no-id-before member

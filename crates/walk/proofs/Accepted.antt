@@ -96,11 +96,6 @@ module _ {A : Type 0} (rule : List A → A → ℕ) (d : A) where
   each-at before (a ∷ l) k zero h = rw append-nil (k .0)
   each-at before (a ∷ l) k (suc j) h = rw append-assoc at (each-at (before ++ a ∷ []) l (k .1) j (omega arith))
 
-  at-each : (before l : List A) → ((j : ℕ) → j < length l → rule (before ++ take j l) (getD l j d) ≡ 0) → EachAfter rule before l
-  at-each before [] f = tt
-  at-each before (a ∷ l) f =
-      (rw append-nil at (f 0 (omega arith)), at-each (before ++ a ∷ []) l (λ j h. rw append-assoc (f (suc j) (omega arith))))
-
 id-at : (l : List Member) (j : ℕ) → j < length l → lastId (take j l) ≡ idBefore l j
 id-at l zero h = refl
 id-at [] (suc j) h = absurd (omega arith)

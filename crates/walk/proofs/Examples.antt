@@ -90,6 +90,7 @@ pub record Readings : Type 0 where
   pub pay-form : walkOf false (bytes "interest=1000\nretire=65\npay=012\n") ≡ refusal 10 3
   -- rule 14.25: reading doesn't look at a person's range or sum
   pub unranged : answer (walkOf false (shortFile "pay=1" "member=7,0,63,64,0.00\nend=1\n")) ≡ holds (shortPlan 1) 1
+  pub unsummed : members (walkOf false (ceilingFile "member=7,1,30,40,666666.67\nmember=8,1,30,40,666666.67\nend=2\n")) ≡ 2
 
 pub readings-are : Readings
 unfolding hasOf uptoOf pastOf sameOf digitsOf wholeOf amountOf valuesOf keyedOf formulaWord methodWord termForms rowForm tailOf verdictOf step linesOf restOf folded walkFrom walkOf
@@ -106,6 +107,7 @@ readings-are =
       no-pay = refl;
       pay-form = refl;
       unranged = refl;
+      unsummed = refl;
     }
 
 -- accepting, for its ranges too

@@ -1,4 +1,4 @@
--- The laws of the walk, from outcomes up to the whole file; Theorems, Rests, Accepted and Examples are what a reader looks for.
+-- The laws of the walk, from outcomes up to the whole file; Theorems, Rests, SumRests, Accepted and Examples are what a reader looks for.
 pub mod OutcomeLaws
 pub mod LineLaws
 pub mod FoldLaws

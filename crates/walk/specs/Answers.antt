@@ -5,13 +5,14 @@ use mathlib.Core.List.{List, [], _++_}
 use mathlib.Core.Bool.{Bool, true, false}
 use mathlib.Core.Logic.{_⊎_}
 use lib.ListN.{length, take}
+use lib.Dec.{leb}
 use Rattle.fields.specs.Split.{seekOf, hasOf, pastOf}
 use Rattle.rates.specs.Table.{ages}
 use Rattle.rules.specs.Refusals.{tooLarge, cutOff, bytesAfter, wrongCount, planForm, outOfRange, wrongAverage, wrongLastDeath, wrongWeight, memberForm, wrongId, wrongEntry, wrongAge, wrongSalary, highBenefit, surplusMember, wrongPerson, highSum}
 use Rattle.plan.specs.declared.Member.{Member}
 use Rattle.walk.specs.Outcome.{values, refusal}
 use Rattle.walk.specs.Terms.{termForms}
-use Rattle.walk.specs.Lines.{mostMembers}
+use Rattle.walk.specs.Lines.{listed, mostMembers, tailOf}
 use Rattle.walk.specs.Step.{Head, people, lastId, sumIn, step}
 use Rattle.walk.specs.Walk.{Case, walkOf}
 use Rattle.walk.specs.Kept.{AcceptedCase}
@@ -84,11 +85,11 @@ abbrev pub RestsOnLines : Type 0
 RestsOnLines =
     (ranges : Bool) (s after : List ℕ) (n l : ℕ) → walkOf ranges s ≡ refusal n l → (n ≡ tooLarge → ⊥) → (n ≡ cutOff → hasOf 10 after ≡ false) → length (through l s ++ after) ≤ 65536 → walkOf ranges (through l s ++ after) ≡ refusal n l
 
--- of the members before it, line k is judged by how many they are (rules 4.1 and 4.6), by the last id (rule 4.2) and by the sums of the persons'
--- benefits (rule 7.10), and by nothing else: with other members that have these in common it gets the same refusal
-abbrev pub RestsOnIdAndSums : Type 0
-RestsOnIdAndSums =
-    (ranges : Bool) (k : ℕ) (h : Head) (some others : List Member) → length some ≡ length others → lastId some ≡ lastId others → ((person : ℕ) → sumIn h person some ≡ sumIn h person others) → (line ahead : List ℕ) (n l : ℕ) → step ranges k (people h some) line ahead ≡ refusal n l → step ranges k (people h others) line ahead ≡ refusal n l
+-- of the members before it, line k is judged by how many they are (rules 4.1 and 4.6), by the last id (rule 4.2) and, where it is a member's, by
+-- the sum of that person's benefits (rule 7.10), and by nothing else: with other members that have these in common it gets the same refusal
+abbrev pub RestsOnIdAndSum : Type 0
+RestsOnIdAndSum =
+    (ranges : Bool) (k : ℕ) (h : Head) (some others : List Member) (line ahead : List ℕ) → length some ≡ length others → lastId some ≡ lastId others → ((m : Member) → tailOf (leb mostMembers (length others)) line ≡ listed m → sumIn h (m .person) some ≡ sumIn h (m .person) others) → (n l : ℕ) → step ranges k (people h some) line ahead ≡ refusal n l → step ranges k (people h others) line ahead ≡ refusal n l
 
 -- ---- reading
 -- rule 5.1: a refusal of reading has a number of form

@@ -1,12 +1,12 @@
 -- `acceptance::lone_refusal` meets its contract.
 use native.Mathlib.Omega.{arith}
-use mathlib.Core.Path.{_≡_, sym, ap, _∙_}
+use mathlib.Core.Path.{_≡_, sym, _∙_}
 use mathlib.Core.List.{_∷_, []}
 use borrow.Author.Needs.{needs}
 use Rattle.acceptance.specs.Acceptance.{planRefusal, memberRefusal, lineRefusal, loneRefusal}
 use Rattle.rules.proofs.RuleLaws.{first-refuses, first-passes, first-alone}
 use Rattle.acceptance.proofs.Facts.{is-benefit, is-refused}
-use Rattle.acceptance.proofs.LoneLaws.{first-line-own}
+use Rattle.acceptance.proofs.LoneLaws.{own-alone}
 use Rattle.acceptance.proofs.lone_refusal.Statement.{statement}
 use Rattle.acceptance.proofs.lone_refusal.Tie as tie
 
@@ -24,7 +24,7 @@ own c =
     let a = c .before .before .before .before .args in
     let line = lineRefusal (a .p) (a .t2) 0 0 (a .m) in
     let kept = sym (c .before .before .before .plan-refusal .ensures) ∙ c .before .before .if1 .left in
-    sym (first-passes (planRefusal (a .p) (a .t2)) (line ∷ []) kept ∙ first-alone line ∙ first-line-own (a .p) (a .t2) 0 (a .m))
+    sym (first-passes (planRefusal (a .p) (a .t2)) (line ∷ []) kept ∙ first-alone line ∙ own-alone (a .p) (a .t2) 0 (a .m))
 
 pub lone-refusal-spec : {M : Type 1} → statement M
 lone-refusal-spec =
