@@ -4,9 +4,10 @@
 //!
 //! The same on both sides: the grammar, the rules in their order, the answer, and in accepting B(r) of each member and the
 //! table of persons.rs, cleared for each file, in which the sum of its person is sought cell by cell. What differs: reading
-//! in Rattle stores the rows and the members, in arrays that it clears first and throws away; form.rs keeps none. Accepting
-//! keeps both on either side: Rattle in such arrays, copied out once all is accepted, so that a refusal leaves the caller's
-//! as they were; reader.rs in an array and a Vec that grows, handed back as they are.
+//! in Rattle stores the rows and the members, in arrays that it clears first and throws away, and clears the table of
+//! persons too, though only accepting uses it; form.rs keeps nothing and has no such table. Accepting keeps rows and members
+//! on either side: Rattle in such arrays, copied out once all is accepted, so that a refusal leaves the caller's as they
+//! were; reader.rs in an array and a Vec that grows, handed back as they are.
 #[expect(dead_code, reason = "what is read is not valued here")]
 mod factors;
 mod files;
@@ -17,6 +18,7 @@ mod reader;
 
 use files::{PERSONS, Random, case, member, member_of, row};
 use reader::{LARGEST, MEMBERS};
+use std::collections::BTreeMap;
 use std::process::exit;
 use std::time::Instant;
 
@@ -80,6 +82,11 @@ fn of_persons(person: fn(usize) -> usize) -> Vec<u8> {
     case(&HEADING.replace("unit=150", "unit=5"), MEMBERS, row, |j| member_of(j, person(j)))
 }
 
+/// One person's lines, which come to 992219.25: not much is left, so that a damaged file can have too much.
+fn nearly_all() -> Vec<u8> {
+    case(HEADING, 59, row, |j| member_of(j, 1))
+}
+
 /// One side's best time for a file, in µs.
 struct Side {
     answer: fn(&[u8]) -> Answer,
@@ -107,6 +114,7 @@ struct Case {
 impl Case {
     fn new(name: String, bytes: Vec<u8>, rattle: fn(&[u8]) -> Answer, rust: fn(&[u8]) -> Answer) -> Case {
         assert!(bytes.len() <= LARGEST);
+        assert_eq!(rattle(&bytes), (0, 0));
         let side = |answer| Side { answer, best: f64::INFINITY };
         Case { name, bytes, rattle: side(rattle), rust: side(rust) }
     }
@@ -130,8 +138,8 @@ impl Case {
         println!("{title:66} {rattle:8.1} {rust:8.1} {:7.2}", rattle / rust);
     }
 
-    /// Exits 1 where the sides answer a damaged file differently.
-    fn compare(&self, random: &mut Random) {
+    /// Exits 1 where the sides answer a damaged file differently; else counts the answers by their number.
+    fn compare(&self, random: &mut Random, answered: &mut BTreeMap<u64, usize>) {
         for _ in 0..DAMAGED {
             let bytes = random.damaged(&self.bytes);
             let (rattle, rust) = ((self.rattle.answer)(&bytes), (self.rust.answer)(&bytes));
@@ -139,6 +147,7 @@ impl Case {
                 println!("{}, damaged: Rattle answers {rattle:?} and Rust {rust:?}", self.name);
                 exit(1);
             }
+            *answered.entry(rattle.0).or_insert(0) += 1;
         }
     }
 }
@@ -161,9 +170,11 @@ fn main() {
     let title = format!("one file, µs, best of {ROUNDS} rounds");
     println!("{title:66} {:>8} {:>8} {:>7}", "Rattle", "Rust", "ratio");
     cases.iter().for_each(Case::print);
-    println!("what differs: Rattle fills arrays, which it clears first, and copies them out where it accepts; Rust keeps");
-    println!("nothing where it reads");
-    let mut random = Random(1);
-    cases.iter().for_each(|case| case.compare(&mut random));
-    println!("{} damaged files: the same answers", cases.len() * DAMAGED);
+    println!("what differs: Rattle fills arrays, which it clears first, and copies them out where it accepts; where it");
+    println!("reads, it clears the table of persons all the same, and Rust has no table there and keeps nothing");
+    cases.push(Case::accepting("nearly all that a person may have", nearly_all()));
+    let (mut random, mut answered) = (Random(1), BTreeMap::new());
+    cases.iter().for_each(|case| case.compare(&mut random, &mut answered));
+    println!("{} damaged files: the same answers, by number: {answered:?}", cases.len() * DAMAGED);
+    assert!([28, 29].iter().all(|number| answered.contains_key(number)));
 }

@@ -16,8 +16,8 @@ from pathlib import Path
 from types import SimpleNamespace
 
 import commands
-from oracle import (AGES, FIRST, LAST, MILLION, MONTHLY, NO_PAYS, PAYS, YEARLY, Factors, certain, nearest, short_table,
-                    table)
+from oracle import (AGES, FIRST, LAST, MILLION, MONTHLY, NO_PAYS, PAYS, YEARLY, Factors, certain, level_table, nearest,
+                    short_table, table)
 
 ROOT = Path(__file__).parent.parent
 CRATE = ROOT / 'crates' / 'test_annuity_factors'
@@ -117,7 +117,7 @@ def stored():
     return [
         Case(1000, 65, YEARLY, 65, 2, short_table()),
         Case(1000, 65, MONTHLY, 65, 2, short_table()),
-        Case(0, 75, MONTHLY, 60, 40, table(lambda k: (0, 0, 0), lambda k: 1000)),
+        Case(0, 75, MONTHLY, 60, 40, level_table()),
         Case(2000, 50, YEARLY, 50, 17, table(heavy, rising)),
     ]
 

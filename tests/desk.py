@@ -5,7 +5,7 @@
 Good and bad input goes to the command as it stands in the repository, over the proved program. What a broken program or
 a changed source does is tried in a copy of the command, where a small script takes the place of rt and another one that
 of the program. The words of the refusals are those of bin/refusals.tsv, in README.md and embed/kuyeshan.h too; and who
-mends them is also that of docs/RULES.md.
+mends them is also that of docs/RULES.md. The case that README.md shows, and what is printed of it, are the example's.
 """
 import errno
 import os
@@ -27,6 +27,7 @@ ROOT = Path(__file__).resolve().parent.parent
 COMMAND = ROOT / 'bin' / 'value'
 EXAMPLES = ROOT / 'examples'
 TABLE = ROOT / 'bin' / 'refusals.tsv'
+README = (ROOT / 'README.md').read_text(encoding='utf-8')
 # What the rules list. No file gives 30, since the program's buffer holds all outputs.
 RULES = ACCEPTING | {30}
 # What they listed once. These stand in no list again, and the command doesn't take one for an answer.
@@ -613,11 +614,15 @@ def words():
     return table
 
 
+def part_of_readme(title):
+    return README.split(f'\n## {title}\n')[1].split('\n## ')[0]
+
+
 def said_in_readme():
     """The rows of its table. One without a name has that of the row above."""
-    part = (ROOT / 'README.md').read_text(encoding='utf-8').split('## When a file is refused\n')[1].split('\n## ')[0]
     who = ''
-    for named, number, what in re.findall(r'^\| (.*?) ?\| ([0-9]+) \| (.*) \|$', part, re.MULTILINE):
+    rows = re.findall(r'^\| (.*?) ?\| ([0-9]+) \| (.*) \|$', part_of_readme('When a file is refused'), re.MULTILINE)
+    for named, number, what in rows:
         who = named or who
         yield int(number), (who, what)
 
@@ -639,9 +644,20 @@ def menders_in_rules():
         yield int(number), who
 
 
+def check_example():
+    """README.md shows lines of a case file, `  ..` being some that are left out, and then all that is printed of it."""
+    shown, printed = re.findall(r'^```\n(.*?)^```$', part_of_readme('From file to lines'), re.MULTILINE | re.DOTALL)
+    case = r'(?:.+\n)+'.join(map(re.escape, shown.split('  ..\n')))
+    if not re.fullmatch(case, (EXAMPLES / 'final-pay.case').read_text(encoding='utf-8')):
+        sys.exit("desk: README.md's case isn't that of examples/final-pay.case")
+    if printed != (EXAMPLES / 'final-pay.lines').read_text(encoding='utf-8'):
+        sys.exit("desk: README.md's output isn't that of examples/final-pay.lines")
+
+
 def check_words(table):
-    if f'june.case{BAD_SAID}' not in (ROOT / 'README.md').read_text(encoding='utf-8'):
+    if f'june.case{BAD_SAID}' not in README:
         sys.exit("desk: README.md's example isn't what the command says")
+    check_example()
     menders = [(number, who) for number, (who, _) in table.items()]
     for place, said, wanted in (('README.md', said_in_readme(), table.items()),
                                 ('embed/kuyeshan.h', said_in_header(), table.items()),

@@ -24,8 +24,8 @@ from accuracy_search import largest_salary
 from annuity_factors import any_rates, one_takes_all
 from oracle import (AB, AGES, CAREER, CD, CP, FIGURES, FINAL, FIRST, FLAT, FORMULAS, LAST, LIMIT, METHOD_NAMES, METHODS,
                     MILLION, MONTHLY, MOST_ASSETS, MOST_BENEFIT, MOST_NUMBER, MOST_SALARY, NO_PAYS, PAYS, S, YEARLY,
-                    Factors, Member, Plan, benefit, exact_benefit, exact_costs, nearest, refusal, refusal_of_plan,
-                    rounded_costs, sharp_limit, short_table, stray, table)
+                    Factors, Member, Plan, benefit, exact_benefit, exact_costs, level_table, nearest, refusal,
+                    refusal_of_plan, rounded_costs, sharp_limit, short_table, stray, table)
 
 ROOT = Path(__file__).parent.parent
 CRATE = ROOT / 'crates' / 'test_member_figures'
@@ -97,11 +97,6 @@ def worked_benefits(plan):
     # Only AB's figures show the B(64) of this plan.
     yield career._replace(plan=final._replace(method=AB)), dict(benefit='381.82')
     yield career._replace(plan=final._replace(average=1)), dict(benefit='400.00')
-
-
-def level_table():
-    """No removals before 120, equal weights."""
-    return table(lambda k: (0, 0, 0), lambda k: 1000)
 
 
 def worked_level():

@@ -67,6 +67,11 @@ def short_table():
     return table(lambda k: (0 if k <= 64 else MILLION, 0, 0), lambda k: 1000 if k <= 63 else 1100)
 
 
+def level_table():
+    """No removals before 120, equal weights."""
+    return table(lambda k: (0, 0, 0), lambda k: 1000)
+
+
 # ---- rounding: RULES section 6
 
 def nearest(n, d):

@@ -14,22 +14,24 @@ from collections import Counter
 from itertools import product
 
 import commands
-from case_files import NO_PERSONS, PERSONS, file, heading, hold, hold_oracle, member
+from case_files import ANOTHER, NO_PERSONS, ONE, PERSONS, TABLE_END, file, final_heading, hold, hold_oracle, member
 from case_oracle import MOST_MEMBERS, accepting
-from oracle import MOST_BENEFIT, MOST_NUMBER, table
+from oracle import MOST_BENEFIT, MOST_NUMBER, level_table
 from value_oracle import amount
 
-FIRST_MEMBER = 116
 # How many persons there are in most of the files, each with two lines.
 SOME = 60
 DRAWN = 1500
+# How often each number must be answered at least, 0 for none: of the files of which it is known, and of the drawn ones.
+LEAST_KNOWN = {0: 120, 29: 370}
+LEAST_DRAWN = dict.fromkeys((0, 25, 28, 29), DRAWN // 50)
 
 
 def case_of(lines, entry=45):
     """A file of lines, each a person and the cents of its benefit: with 20 years of service, equal weights and 5 percent of
     the last pay for each year the benefit is the salary (rule 14.13)."""
     members = [member(id, entry, 60, amount(cents), person) for id, (person, cents) in enumerate(lines, 1)]
-    return file(heading(formula='final', unit='500', average='1'), table(lambda k: (0, 0, 0), lambda k: 1000), members)
+    return file(final_heading(), level_table(), members)
 
 
 # ---- persons
@@ -101,7 +103,7 @@ def one_cent_more(lines, person):
     """The same with a cent more in the person's first line, which is refused at its last one: no part is of one cent."""
     places = [place for place, (one, _) in enumerate(lines) if one == person]
     more = [(one, cents + (place == places[0])) for place, (one, cents) in enumerate(lines)]
-    return case_of(more), None, (29, FIRST_MEMBER + places[-1])
+    return case_of(more), None, (29, TABLE_END + 1 + places[-1])
 
 
 # ---- files, each with what reading and accepting must say
@@ -126,13 +128,13 @@ def full(rng):
     """As many lines as a file may have: of one person; of three; of as many persons, and of as many but one; of half as
     many, with much in common; and of one after others that are like it in more and more bits."""
     anyone, half = range(1, MOST_NUMBER + 1), MOST_MEMBERS // 2
-    yield from in_order(rng, [7] * MOST_MEMBERS)
-    yield from in_order(rng, [*PERSONS, 4103, 4103] * (MOST_MEMBERS // 4))
+    yield from in_order(rng, [ONE] * MOST_MEMBERS)
+    yield from in_order(rng, [*PERSONS, ANOTHER, ANOTHER] * (MOST_MEMBERS // 4))
     yield from in_order(rng, rng.sample(anyone, MOST_MEMBERS))
-    yield from in_order(rng, [4103, *rng.sample(anyone, MOST_MEMBERS - 2), 4103])
+    yield from in_order(rng, [ANOTHER, *rng.sample(anyone, MOST_MEMBERS - 2), ANOTHER])
     for bits, order in product((12, 20), ORDERS):
         yield from in_order(rng, order(alike_in_low_bits(rng, bits, half)))
-    chain = but_for_one_bit(4103)
+    chain = but_for_one_bit(ANOTHER)
     yield from in_order(rng, chain + [chain[-1]] * (MOST_MEMBERS - len(chain)))
 
 
@@ -157,20 +159,27 @@ def drawn_line(rng, pool, most):
 def drawn_file(rng):
     """Of few persons, whose lines come to about the ceiling; with 21 years of service some benefits are over it by
     themselves."""
-    pool = within(rng.choice([1, 7, 4103, MOST_NUMBER, rng.randint(1, MOST_NUMBER)]) for _ in range(rng.randint(1, 5)))
+    pool = within(rng.choice([*PERSONS, ONE, ANOTHER, rng.randint(1, MOST_NUMBER)]) for _ in range(rng.randint(1, 5)))
     count = rng.randint(1, 6 * len(pool))
     lines = [drawn_line(rng, pool, 3 * MOST_BENEFIT * len(pool) // (2 * count)) for _ in range(count)]
     return case_of(lines, entry=rng.choice([45, 45, 45, 44]))
+
+
+def counted(answers, least):
+    """How often each number is answered, 0 for none; no others than these are, and each as often at least."""
+    said = Counter(number for number, _ in (answer or (0, 0) for answer in answers))
+    if set(said) != set(least) or any(said[number] < count for number, count in least.items()):
+        sys.exit(f'persons: files are refused so often: {commands.counted(said)}, and should be {commands.counted(least)}')
+    return said
 
 
 def check():
     rng = random.Random(15)
     files = [*known(rng)]
     hold_oracle('persons', files)
+    counted((accepted for _, _, accepted in files), LEAST_KNOWN)
     drawn = [drawn_file(rng) for _ in range(DRAWN)]
-    said = Counter((accepting(case) or (0,))[0] for case in drawn)
-    if set(said) != {0, 25, 28, 29} or min(said.values()) < DRAWN // 50:
-        sys.exit(f'persons: the drawn files are refused so often: {commands.counted(said)}')
+    said = counted(map(accepting, drawn), LEAST_DRAWN)
     read, refused = hold('persons', [case for case, _, _ in files] + drawn)
     if read:
         sys.exit(f'persons: reading refuses {commands.counted(read)}')

@@ -68,7 +68,7 @@ def files(rng):
     yield from (example.read_bytes() for example in examples())
     yield from (longest(), many(1000), many(1001), filled(65536), filled(65537), b'')
     yield from rng.sample([*damaged(good_files()[2])], 60)
-    yield from (case for case, _, _ in rng.sample([*two_faults(20)], 60))
+    yield from (case for case, _, _ in rng.sample([*two_faults(1)], 60))
     yield from drawn_files(rng, 100)
 
 

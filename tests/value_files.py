@@ -20,17 +20,20 @@ import case_oracle
 import commands
 import persons
 from accuracy_search import largest_salary
-from case_files import (ACCEPTING, FULL, HALF, OVER_HALF, cut, damaged, file, filled, good_files, heading, many, member,
-                        ranges, spell, spells, stray_bytes, two_faults, worked_persons)
+from case_files import (ACCEPTING, FULL, HALF, OVER_HALF, cut, damaged, file, filled, final_heading, good_files, heading,
+                        many, member, ranges, spell, spells, stray_bytes, two_faults, worked_persons)
 from member_figures import (SHORT_CASE, at_ends, at_largest_benefit, dollars, drawn_member, drawn_number, drawn_plan,
-                            drawn_rates, drawn_weights, extreme_cases, level_table, straying_cases)
+                            drawn_rates, drawn_weights, extreme_cases, straying_cases)
 from oracle import (BD, FINAL, METHOD_NAMES, MOST_ASSETS, MOST_BENEFIT, MOST_NUMBER, MOST_SALARY, NO_PAYS, PAYS, YEARLY,
-                    Member, Plan, benefit, short_table, table)
+                    Member, Plan, benefit, level_table, short_table, table)
 from value_oracle import amount, exact_supplemental, lines, supplemental_limit, valued
 
 ROOT = Path(__file__).parent.parent
 PROGRAM = ROOT / 'target' / 'bin' / 'value'
 EXAMPLES = ROOT / 'examples'
+# Those with tables that are like real ones. In the short table all live to 65 and nobody longer, and two-spells has the
+# table of final-pay.
+REAL = 'final-pay.case', 'textbook.case'
 FORMULA_NAMES = {1: 'flat', 2: 'career', 3: 'final'}
 # No output is longer. A member line has an id of 9 digits, a B(r) of up to 1000000.00, and a V, N and L of less than
 # 100000000.00 each, since A(50) is at most 71: 64 bytes. So the lines fit the program's buffer, and 30 can't occur.
@@ -43,8 +46,8 @@ def case_file(plan, rows, members):
     """The case file of plain values."""
     named = plan._replace(formula=FORMULA_NAMES[plan.formula], method=METHOD_NAMES[plan.method],
                           assets=amount(plan.assets))
-    lines = [member(m.id, m.entry, m.age, amount(m.salary), m.person) for m in members]
-    return file(heading(**named._asdict()), rows, lines)
+    listed = [member(m.id, m.entry, m.age, amount(m.salary), m.person) for m in members]
+    return file(heading(**named._asdict()), rows, listed)
 
 
 def answer(case):
@@ -106,11 +109,11 @@ def worked_bounds(short, level):
         case = file(heading(retire=retire, unit=100000), crowded, [member(7, 15, 64)])
         yield f'rates that sum to 1000001 at 64, retire {retire}', case, said
     yield 'weight 999', file(heading(), {**short, 15: (0, 0, 0, 999)}, []), b'refused=15,10\n'
-    final = heading(formula='final', unit=500, average=1)
+    final = final_heading()
     for service, said in ((20, b'member=7,1000000.00,'), (21, b'refused=25,116\n')):
         members = [member(7, 65 - service, 60, '1000000.00')]
         yield f'salary 1000000.00, {service} years', file(final, level, members), said
-    final = heading(retire=60, formula='final', unit=500, average=1)
+    final = final_heading(retire=60)
     for salary, said in (('666666.67', b'member=7,1000000.00,'), ('666666.68', b'refused=25,116\n')):
         yield f'salary {salary}, 30 years', file(final, short, [member(7, 30, 40, salary)]), said
 
@@ -198,10 +201,10 @@ def damaged_files(rng):
 # ---- drawn files
 
 def drawn_rows(rng):
-    """Drawn ones; or those of an example, for they are like real ones."""
+    """Drawn ones; or those of an example, which are like real ones."""
     if rng.random() < 0.8:
         return table(drawn_rates(rng), drawn_weights(rng))
-    _, rows, _ = case_oracle.walk(rng.choice(examples()).read_bytes(), True)
+    _, rows, _ = case_oracle.walk((EXAMPLES / rng.choice(REAL)).read_bytes(), True)
     return rows
 
 
@@ -260,8 +263,8 @@ def faulty_member(rng, plan, rows):
 
 def with_few_persons(rng, members):
     """The same as lines of one person or two, whatever these come to."""
-    persons = [drawn_number(rng) for _ in range(rng.choice([1, 2]))]
-    return [one._replace(person=rng.choice(persons)) for one in members]
+    few = [drawn_number(rng) for _ in range(rng.choice([1, 2]))]
+    return [one._replace(person=rng.choice(few)) for one in members]
 
 
 def drawn_files(rng, count):
@@ -278,7 +281,7 @@ def files(rng, count):
     yield from largest_figures()
     yield from balanced(rng)
     yield from damaged_files(rng)
-    yield from (case for case, _, _ in two_faults(200))
+    yield from (case for case, _, _ in two_faults(2))
     yield from (case for case, _, _ in (*worked_persons(), *persons.some(rng)))
     yield from (case_file(*drawn_valued(rng, 1000)) for _ in range(5))
     yield from drawn_files(rng, count)
@@ -323,7 +326,7 @@ def check_independence(rng, pairs):
     for _ in range(pairs):
         plan, rows, members = drawn_valued(rng, 5)
         kept = rng.choice(members)
-        several += [member.person for member in members].count(kept.person) > 1
+        several += [one.person for one in members].count(kept.person) > 1
         others = [other for other in drawn_members(rng, plan, rows, 4)
                   if other.id != kept.id and other.person != kept.person]
         both = [case_file(plan, rows, sorted(group)) for group in (members, [kept, *others])]

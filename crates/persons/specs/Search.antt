@@ -1,5 +1,5 @@
 -- How a person is found: in trees that branch by the bits of the person's number, the last bits first. The 12 last bits choose one of 4,096 trees, and
--- each bit before them a branch, so that two persons part after 18 branches at the latest. A search only goes to higher cells.
+-- each bit before them a branch, so that two persons part after 18 branches at the latest (no proof needs that). A search only goes to higher cells.
 use Prim.Native.Nat.{ℕ, zero, suc, _+_, _-_, _*_, _/_, _%_, _≤_, _<_}
 use mathlib.Core.Path.{_≡_}
 use mathlib.Core.List.{List}
@@ -48,7 +48,9 @@ pub record Known (cells : List ℕ) (sums : List (List ℕ)) (j : ℕ) : Type 0 
 pub record Rooted (cells : List ℕ) (sums : List (List ℕ)) (n : ℕ) : Type 0 where
   pub searchable : Searchable cells
   pub places : length sums ≡ 1000
+  -- no cell holds a line that is still to come, and no such line's place is taken
   pub early : (cell : ℕ) → lineIn cells cell ≤ n
-  pub low : (j : ℕ) → sumAt sums j ≤ 100000000
   pub blank : (j : ℕ) → n ≤ j → (personAt sums j ≡ 0) × (sumAt sums j ≡ 0)
+  -- rule 7.10, of what is accepted so far
+  pub low : (j : ℕ) → sumAt sums j ≤ 100000000
   pub known : (j : ℕ) → (personAt sums j ≡ 0 → ⊥) → Known cells sums j

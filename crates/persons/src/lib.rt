@@ -14,7 +14,7 @@ ghost use Rattle.persons.specs.Held.{held};
 ghost use Rattle.persons.specs.Search.{stopsAt, branch, Searchable, Found, Rooted};
 
 // A search begins at one of so many cells, by the last 12 bits of the person's number.
-const HOMES: usize = 4_096;
+const HOMES: u64 = 4_096;
 
 // And two cells for each line, to go on from a line by the next bit of the number: 4,096 + 2 × 1,001. Those of line 0 stay
 // empty: lines are counted from 1, so that 0 is none.
@@ -49,7 +49,7 @@ fn branch_of(line: u64, rest: u64) -> usize
     requires { ⌜ line ≤ 1000 ⌝ }
     ensures { λ r. ⌜ r ≡ branch line rest ⌝ }
 {
-    HOMES + (2 * line + rest % 2) as usize
+    (HOMES + (2 * line + rest % 2)) as usize
 }
 
 // The cell at which a person's search ends.
@@ -57,8 +57,8 @@ fn find(cells: &Cells, sums: &Sums, person: u64) -> usize
     requires { ⌜ Searchable (now cells) ⌝ }
     ensures { λ c. ⌜ Found (now (cells .entry)) (now (sums .entry)) person c ⌝ }
 {
-    let mut cell = (person % 4_096) as usize;
-    let mut rest = person / 4_096;
+    let mut cell = (person % HOMES) as usize;
+    let mut rest = person / HOMES;
     while !stops(cells, sums, person, cell) {
         cell = branch_of(number(cells[cell]), rest);
         rest /= 2;
