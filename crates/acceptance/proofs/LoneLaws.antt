@@ -1,4 +1,4 @@
--- A lone member is never refused with 29.
+-- A person's first line is judged by its own rules, and a lone member is never refused with 29.
 use mathlib.Core.Path.{_≡_, refl, sym, _∙_}
 use mathlib.Core.Bool.{Bool, true, false, cond, _&&_, _||_}
 use mathlib.Core.List.{List, [], _∷_, _++_}

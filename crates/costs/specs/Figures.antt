@@ -51,7 +51,7 @@ pay-plan formula average =
 abbrev benefit : ℕ → ℕ → ℕ → ℕ
 benefit formula average k = B (pay-plan formula average) short (record { id = 7; person = 1; entry = 63; age = 64; salary = 1000000 }) k
 
--- rules 14.17 and 14.24, a benefit that lies halfway between the largest that is accepted and a cent more
+-- rule 14.17, a benefit that lies halfway between the largest that is accepted and a cent more; and the plan of rule 14.24
 abbrev ceiling-plan : Plan
 ceiling-plan =
     record { interest = 1000; retire = 60; pay = 1; formula = 3; unit = 500; average = 1; method = 4; assets = 2000; years = 2 }

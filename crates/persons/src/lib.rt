@@ -66,8 +66,9 @@ fn find(cells: &Cells, sums: &Sums, person: u64) -> usize
     cell
 }
 
-// Adds a benefit to a person's sum, after `count` lines; or the refusal's number, where the sum would pass 1000000.00. After a
-// refusal both arrays are left open.
+// Adds a benefit to a person's sum, after `count` lines; or the refusal's number, where the sum would pass 1000000.00. Which
+// cells and places are used is left open: promised is what is held for each person, and that each is found (`Rooted`). After
+// a refusal both arrays are open.
 pub fn add(cells: &mut Cells, sums: &mut Sums, count: usize, person: u64, benefit: u64) -> u64
     requires { ⌜ Rooted (now cells) (now sums) count × (count < 1000) × (1 ≤ person) × (benefit ≤ 100000000) ⌝ }
     ensures { λ r. ⌜ r ≡ Rules·unless (leb (held (now (sums .entry)) person + benefit) 100000000) highSum ⌝ }
