@@ -6,8 +6,8 @@ use mathlib.Core.Bool.{Bool, true, false, cond, _&&_}
 use lib.ListN.{length, drop}
 use lib.Dec.{eqb}
 use borrow.Author.Tests.{eqb-true, ne-eqb, eqb-false}
-use Rattle.fields.specs.declared.lines.Line.{Line}
-use Rattle.fields.specs.declared.lines.Line.the-variants.{Wrong, Cut}
+use Rattle.fields.specs.declared.Line.{Line}
+use Rattle.fields.specs.declared.Line.the-variants.{Wrong, Cut}
 use Rattle.fields.specs.Split.{seekOf, hasOf, uptoOf, startsOf}
 use Rattle.fields.specs.Numbers.{Number}
 use Rattle.fields.specs.Values.{valuesOf, keyedOf}

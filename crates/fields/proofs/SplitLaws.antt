@@ -9,7 +9,7 @@ use lib.Dec.{eqb, leb·suc-suc}
 use native.Mathlib.Omega.{arith}
 use native.Mathlib.Numerals.{add-one}
 use borrow.Author.Tests.{eq-eqb, ne-eqb, eqb-true, lt-ltb, le-ltb, not-true}
-use Rattle.fields.specs.declared.lines.Line.the-variants.{Wrong, Cut as Off}
+use Rattle.fields.specs.declared.Line.the-variants.{Wrong, Cut as Off}
 use Rattle.fields.specs.Split.{seekOf, hasOf, uptoOf, pastOf, startsOf}
 
 module _ (b : ℕ) (s : List ℕ) (i : ℕ) where

@@ -8,8 +8,8 @@ use native.Mathlib.Omega.{arith}
 use native.Mathlib.Numerals.{add-one}
 use Rattle.fields.specs.declared.numbers.Field.{Field}
 use Rattle.fields.specs.declared.numbers.Field.the-variants.{Is, NotField}
-use Rattle.fields.specs.declared.lines.Line.{Line}
-use Rattle.fields.specs.declared.lines.Line.the-variants.{Good, Wrong, Cut}
+use Rattle.fields.specs.declared.Line.{Line}
+use Rattle.fields.specs.declared.Line.the-variants.{Good, Wrong, Cut}
 use Rattle.fields.specs.Split.{seekOf, hasOf, uptoOf, pastOf}
 use Rattle.fields.specs.Numbers.{Number, value, wholeOf}
 use Rattle.fields.specs.Values.{Values, Held, found, misread, before, valuesOf, fieldOf}

@@ -21,7 +21,7 @@ fn is_digit(c: u8) -> bool
 
 // Rule 1.3: the whole number from place i up to the first byte b, which is no digit. A place instead of a slice, and the
 // test of 12 digits inside the loop: in this shape LLVM inlines it.
-pub(crate) fn field_at(s: &[u8], i: usize, b: u8) -> Field
+pub fn field_at(s: &[u8], i: usize, b: u8) -> Field
     requires { ⌜ b < 48 ⌝ }
     ensures { λ r. ⌜ r ≡ fieldOf wholeOf b i (now (s .entry)) ⌝ }
 {
@@ -53,7 +53,7 @@ pub(crate) fn field_at(s: &[u8], i: usize, b: u8) -> Field
 }
 
 // Rule 1.4: the amount from place i up to the first byte 10, in cents.
-pub(crate) fn amount_at(s: &[u8], i: usize) -> Field
+pub fn amount_at(s: &[u8], i: usize) -> Field
     ensures { λ r. ⌜ r ≡ fieldOf amountOf 10 i (now (s .entry)) ⌝ }
 {
     let Field::Is(dollars, p) = field_at(s, i, 46) else {
@@ -80,7 +80,7 @@ pub(crate) fn amount_at(s: &[u8], i: usize) -> Field
 }
 
 // The last value of a line.
-pub(crate) fn last_at(s: &[u8], i: usize, amount: bool) -> Field
+pub fn last_at(s: &[u8], i: usize, amount: bool) -> Field
     ensures { λ r. ⌜ r ≡ fieldOf (lastOf amount) 10 i (now (s .entry)) ⌝ }
 {
     if amount {

@@ -8,8 +8,8 @@ use lib.Seq.{take-suc-set, take-all, length-take-le, getD-take}
 use native.Mathlib.Omega.{arith}
 use native.Mathlib.Numerals.{add-one}
 use borrow.Author.Tests.{eq-eqb, ne-eqb}
-use Rattle.fields.specs.declared.lines.Line.{Line}
-use Rattle.fields.specs.declared.lines.Line.the-variants.{Good, Wrong, Cut}
+use Rattle.fields.specs.declared.Line.{Line}
+use Rattle.fields.specs.declared.Line.the-variants.{Good, Wrong, Cut}
 use Rattle.fields.specs.Split.{uptoOf, pastOf}
 use Rattle.fields.specs.Values.{Values, Held}
 use Rattle.fields.proofs.AnswerLaws.{is-good, is-wrong, is-cut, Answers}

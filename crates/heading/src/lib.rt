@@ -1,8 +1,6 @@
 // The heading, RULES section 2: the plan's own terms.
-use fields::lines::Line;
-use fields::lines::Read;
-use fields::lines::one_value;
-use fields::lines::unread;
+use fields::Line;
+use fields::Read;
 use fields::text::from;
 use fields::text::same;
 use fields::text::seek;
@@ -12,9 +10,11 @@ use rules::refusals::CUT_OFF;
 use rules::refusals::PLAN_FORM;
 use rules::terms::term_rule;
 use stretches::Stretch;
+use values::one_value;
+use values::unread;
 ghost use mathlib.Core.Path.{_≡_};
 ghost use Prim.Native.Nat.{ℕ};
-ghost use Rattle.fields.specs.declared.lines.Line.the-variants.{Good};
+ghost use Rattle.fields.specs.declared.Line.the-variants.{Good};
 ghost use Rattle.fields.specs.Split.{uptoOf};
 ghost use Rattle.fields.specs.Values.{Held, lineOf};
 ghost use Rattle.rules.specs.Heading.{termRule};

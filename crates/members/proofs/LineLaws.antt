@@ -6,8 +6,8 @@ use mathlib.Core.Bool.{Bool, true, false, cond}
 use lib.ListN.{length, getD, take, drop}
 use lib.Seq.{getD-take}
 use native.Mathlib.Omega.{arith}
-use Rattle.fields.specs.declared.lines.Line.{Line}
-use Rattle.fields.specs.declared.lines.Line.the-variants.{Good, Wrong, Cut}
+use Rattle.fields.specs.declared.Line.{Line}
+use Rattle.fields.specs.declared.Line.the-variants.{Good, Wrong, Cut}
 use Rattle.fields.specs.Text.{bytes}
 use Rattle.fields.specs.Split.{seekOf, hasOf, uptoOf, startsOf}
 use Rattle.fields.specs.Numbers.{Number, wholeOf, amountOf}

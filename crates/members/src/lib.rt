@@ -1,10 +1,8 @@
 // The lines after the rows, RULES section 4: the members and the end.
 use acceptance::Benefit;
 use acceptance::member_benefit;
-use fields::lines::Line;
-use fields::lines::Read;
-use fields::lines::four_and_amount;
-use fields::lines::one_value;
+use fields::Line;
+use fields::Read;
 use fields::text::from;
 use fields::text::seek;
 use fields::text::starts;
@@ -22,6 +20,8 @@ use rules::refusals::CUT_OFF;
 use rules::refusals::MEMBER_FORM;
 use rules::refusals::SURPLUS_MEMBER;
 use rules::refusals::WRONG_COUNT;
+use values::four_and_amount;
+use values::one_value;
 ghost use mathlib.Core.Path.{_≡_};
 ghost use mathlib.Core.Bool.{true, false, cond};
 ghost use Prim.Native.Nat.{ℕ, _+_, _≤_, _<_};

@@ -7,8 +7,8 @@ use lib.ListN.{length, getD, take}
 use lib.Dec.{eqb}
 use native.Mathlib.Omega.{arith}
 use borrow.Author.Tests.{eq-eqb, ne-eqb}
-use Rattle.fields.specs.declared.lines.Line.{Line}
-use Rattle.fields.specs.declared.lines.Line.the-variants.{Good, Wrong, Cut}
+use Rattle.fields.specs.declared.Line.{Line}
+use Rattle.fields.specs.declared.Line.the-variants.{Good, Wrong, Cut}
 use Rattle.fields.specs.Text.{bytes}
 use Rattle.fields.specs.Split.{uptoOf}
 use Rattle.fields.specs.Numbers.{wholeOf}

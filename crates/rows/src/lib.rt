@@ -1,7 +1,6 @@
 // The table, RULES section 3: a row for each age from 15 to 120.
-use fields::lines::Line;
-use fields::lines::Read;
-use fields::lines::five_values;
+use fields::Line;
+use fields::Read;
 use fields::text::from;
 use rates::AGES;
 use rates::FIRST_AGE;
@@ -11,10 +10,11 @@ use rules::refusals::PLAN_FORM;
 use rules::rows::Row;
 use rules::rows::row_rule;
 use stretches::Stretch;
+use values::five_values;
 ghost use mathlib.Core.Path.{_≡_};
 ghost use mathlib.Core.List.{map};
 ghost use Prim.Native.Nat.{ℕ, _≤_};
-ghost use Rattle.fields.specs.declared.lines.Line.the-variants.{Good};
+ghost use Rattle.fields.specs.declared.Line.the-variants.{Good};
 ghost use Rattle.fields.specs.Split.{uptoOf};
 ghost use Rattle.fields.specs.Values.{lineOf};
 ghost use Rattle.rules.specs.Rules.{firstOf};

@@ -1,8 +1,8 @@
--- `fields::lines::unread` meets its contract.
+-- `values::unread` meets its contract.
 use borrow.Author.Needs.{needs}
 use Rattle.fields.proofs.SplitLaws.{cut-off, not-cut}
-use Rattle.fields.proofs.lines.unread.Statement.{statement}
-use Rattle.fields.proofs.lines.unread.Tie as tie
+use Rattle.values.proofs.unread.Statement.{statement}
+use Rattle.values.proofs.unread.Tie as tie
 
 pub unread-spec : {M : Type 1} → statement M
 unread-spec =

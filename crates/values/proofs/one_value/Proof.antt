@@ -1,11 +1,11 @@
--- `fields::lines::one_value` meets its contract.
+-- `values::one_value` meets its contract.
 use mathlib.Core.Path.{refl}
 use borrow.Author.Needs.{needs}
 use borrow.Author.Tests.{not-true, not-false}
 use Rattle.fields.proofs.ValueLaws.{last-read, last-wrong}
 use Rattle.fields.proofs.KeyLaws.{key-read, key-wrong}
-use Rattle.fields.proofs.lines.one_value.Statement.{statement}
-use Rattle.fields.proofs.lines.one_value.Tie as tie
+use Rattle.values.proofs.one_value.Statement.{statement}
+use Rattle.values.proofs.one_value.Tie as tie
 
 pub one-value-spec : {M : Type 1} → statement M
 one-value-spec =

@@ -1,29 +1,21 @@
 // A line of a key, whole numbers with a comma after each, and a last value. There are three kinds of them, and a function
 // for each: where the fields stand one after the other, in a function that one other calls, LLVM inlines them. It doesn't
 // where they are read in a loop, or where rows and members share a function.
-use crate::numbers::Field;
-use crate::numbers::amount_at;
-use crate::numbers::field_at;
-use crate::numbers::last_at;
-use crate::text::seek;
-use crate::text::starts;
+use fields::Line;
+use fields::Read;
+use fields::numbers::Field;
+use fields::numbers::amount_at;
+use fields::numbers::field_at;
+use fields::numbers::last_at;
+use fields::text::seek;
+use fields::text::starts;
 ghost use mathlib.Core.Path.{_≡_};
 ghost use mathlib.Core.Bool.{false, cond};
 ghost use Prim.Native.Nat.{ℕ};
-ghost use Rattle.fields.specs.declared.lines.Line.the-variants.{Good, Wrong, Cut};
+ghost use Rattle.fields.specs.declared.Line.the-variants.{Good, Wrong, Cut};
 ghost use Rattle.fields.specs.Split.{hasOf, uptoOf};
 ghost use Rattle.fields.specs.Numbers.{wholeOf, amountOf};
 ghost use Rattle.fields.specs.Values.{Held, keyedOf, lastOf, lineOf};
-
-// The values of the longest lines: a row's, and a member's.
-pub type Read = [u64; 5];
-
-// What a line is: right in its form, with the place of its byte 10; or not; or cut off before a byte 10.
-pub enum Line {
-    Good(usize),
-    Wrong,
-    Cut,
-}
 
 // A line whose form is not right: it is wrong, or it is cut off.
 pub fn unread(s: &[u8]) -> Line
