@@ -2,12 +2,18 @@
 //! over the bytes: form.rs for reading, reader.rs for accepting. bench/casefile builds and runs it. The sides take
 //! turns, and the best round of each counts. Exits 1 where an answer differs, of these files or of many damaged ones.
 //!
-//! The same on both sides: the grammar, the rules in their order, the answer, and in accepting B(r) of each member and the
-//! table of persons.rs, cleared for each file, in which the sum of its person is sought cell by cell. What differs: reading
-//! in Rattle stores the rows and the members, in arrays that it clears first and throws away, and clears the table of
-//! persons too, though only accepting uses it; form.rs keeps nothing and has no such table. Accepting keeps rows and members
-//! on either side: Rattle in such arrays, copied out once all is accepted, so that a refusal leaves the caller's as they
-//! were; reader.rs in an array and a Vec that grows, handed back as they are.
+//! The same on both sides: the grammar, the rules in their order, the answer, and in accepting B(r) of each member, by the
+//! unit that the amendments make, and the table of persons.rs, cleared for each file, in which the sum of its person is
+//! sought cell by cell; accepting keeps the amendments, seeks a number among them one by one, and gathers those in force
+//! twice, for the unit's rule and for the members. What differs:
+//! - reading in Rattle stores the amendments, the rows and the members, in arrays that it clears first and throws away, and
+//!   clears the table of persons too, though only accepting uses it; form.rs keeps nothing and has no such table;
+//! - accepting keeps rows and members on either side: Rattle in such arrays, copied out once all is accepted, so that a
+//!   refusal leaves the caller's as they were; reader.rs in an array and a Vec that grows, handed back as they are. Rattle
+//!   hands the amendments on too, and reader.rs only the unit;
+//! - Rattle's `either` and `both` are plain calls, whose arguments are worked first: it seeks the number that an amendment
+//!   rests on even where that is 0 or the amendment is struck, and Rust doesn't seek it there.
+mod amendments;
 #[expect(dead_code, reason = "what is read is not valued here")]
 mod factors;
 mod files;
@@ -16,7 +22,7 @@ mod persons;
 #[expect(dead_code, reason = "what is read is not valued here")]
 mod reader;
 
-use files::{PERSONS, Random, case, member, member_of, row};
+use files::{PERSONS, Random, amended, case, member, member_of, row};
 use reader::{LARGEST, MEMBERS};
 use std::collections::BTreeMap;
 use std::process::exit;
@@ -63,7 +69,7 @@ mod rust {
     }
 
     pub fn accept(case: &[u8]) -> Answer {
-        walk(case, true).err().unwrap_or((0, 0))
+        walk(case).err().unwrap_or((0, 0))
     }
 }
 
@@ -156,12 +162,15 @@ fn main() {
     let wide = case(HEADING, MEMBERS, wide_row, wide_member);
     let many = case(HEADING, MEMBERS, row, member);
     let none = case(HEADING, 0, row, member);
+    let listed = case(&amended(HEADING), 0, row, member);
     let mut cases = vec![
         Case::reading("1,000 members, numbers of 9 digits", wide),
         Case::reading("1,000 members", many.clone()),
         Case::reading("no members", none.clone()),
+        Case::reading("no members, 20 amendments", listed.clone()),
         Case::accepting("1,000 members", many),
         Case::accepting("no members", none),
+        Case::accepting("no members, 20 amendments", listed),
     ];
     cases.extend(PERSONS.map(|(name, person)| Case::accepting(&format!("1,000 lines of {name}"), of_persons(person))));
     for _ in 0..ROUNDS {
@@ -176,5 +185,5 @@ fn main() {
     let (mut random, mut answered) = (Random(1), BTreeMap::new());
     cases.iter().for_each(|case| case.compare(&mut random, &mut answered));
     println!("{} damaged files: the same answers, by number: {answered:?}", cases.len() * DAMAGED);
-    assert!([28, 29].iter().all(|number| answered.contains_key(number)));
+    assert!([28, 29, 53, 54, 55].iter().all(|number| answered.contains_key(number)));
 }

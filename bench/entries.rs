@@ -99,13 +99,13 @@ mod rust {
 
     #[inline(never)]
     pub fn plain(case: &[u8], out: &mut [u8]) -> Answer {
-        let case = walk(case, true)?;
+        let case = walk(case)?;
         copied(&lines(&case, |m| figures(&case, m, &mut Own::new(&case))), out)
     }
 
     #[inline(never)]
     pub fn shared(case: &[u8], out: &mut [u8]) -> Answer {
-        let case = walk(case, true)?;
+        let case = walk(case)?;
         let mut annuities = Shared::new(&case);
         copied(&lines(&case, |m| figures(&case, m, &mut annuities)), out)
     }
@@ -116,6 +116,6 @@ mod rust {
     }
 
     pub fn accept(case: &[u8], _: &mut [u8]) -> Answer {
-        walk(case, true).map(|_| 0)
+        walk(case).map(|_| 0)
     }
 }

@@ -1,10 +1,22 @@
 //! Case files for the benches: good ones, and damaged ones.
+use crate::amendments::AMENDMENTS;
 
-/// A case file: a heading, and so many members, from its rows' and its members' lines.
+/// A case file: a heading, with its amendments, and so many members, from its rows' and its members' lines.
 pub fn case(heading: &str, members: usize, row: impl Fn(usize) -> String, member: impl Fn(usize) -> String) -> Vec<u8> {
     let rows: String = (15..=120).map(row).collect();
     let lines: String = (0..members).map(member).collect();
     format!("{heading}{rows}{lines}end={members}\n").into_bytes()
+}
+
+/// A heading with as many amendments after it as there may be, by which 342 are added to the unit. Every fourth rests on
+/// none and the others on the one before; one is struck, and so the one that rests on it adds nothing either.
+pub fn amended(heading: &str) -> String {
+    let line = |j: usize| {
+        let rests = if j % 4 == 1 { 0 } else { 49 * (j - 1) };
+        format!("amend={},{rests},19,{}\n", 49 * j, u8::from(j == 11))
+    };
+    let lines: String = (1..=AMENDMENTS).map(line).collect();
+    format!("{heading}{lines}")
 }
 
 /// A row of an accepted file.

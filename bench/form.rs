@@ -1,5 +1,6 @@
-//! The form of a case file in Rust and nothing more, in one pass over the bytes that keeps no row and no member: the
-//! plainest loop over the grammar, for reading to be held to. `reader::walk` keeps what it reads.
+//! The form of a case file in Rust and nothing more, in one pass over the bytes that keeps no amendment, no row and no
+//! member: the plainest loop over the grammar, for reading to be held to. `reader::walk` keeps what it reads.
+use crate::amendments::AMENDMENTS;
 use crate::reader::{LARGEST, MEMBERS, Refusal, Rest};
 
 #[inline(never)]
@@ -9,12 +10,20 @@ pub fn form(case: &[u8]) -> Result<(), Refusal> {
     }
     let mut rest = Rest(case);
     rest.plan(false)?;
+    let mut listed = 0;
+    while rest.0.starts_with(b"amend=") {
+        rest.line(10, listed + 10, Rest::amendment)?;
+        if listed == AMENDMENTS as u64 {
+            return Err((53, listed + 10));
+        }
+        listed += 1;
+    }
     for age in 15..=120 {
-        rest.line(10, age - 5, |s| row(s, age))?;
+        rest.line(10, age - 5 + listed, |s| row(s, age))?;
     }
     let mut count = 0;
     loop {
-        let line = count + 116;
+        let line = count + 116 + listed;
         if rest.0.starts_with(b"member=") {
             if count == MEMBERS as u64 {
                 return Err(rest.refused(27, line));

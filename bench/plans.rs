@@ -1,6 +1,6 @@
 //! The case files that bench/run values: plans with members as many as wished, of all pairs of ages, or of certain
 //! persons; and drawn plans.
-use crate::files::{Random, another, case, member, member_line, member_of, row};
+use crate::files::{Random, amended, another, case, member, member_line, member_of, row};
 use crate::reader::MEMBERS;
 
 pub const METHODS: [&str; 5] = ["AB", "BD", "BP", "CD", "CP"];
@@ -31,7 +31,13 @@ pub fn nearly_all() -> Vec<u8> {
     case(&measured_heading(65, 150, "CD"), 44, row, |j| member_of(j, 1))
 }
 
-/// A file of another plan and members, of up to three persons; some of its numbers are out of range now and then.
+/// As many amendments as there may be, with which the unit is 492, and some members.
+pub fn with_amendments() -> Vec<u8> {
+    case(&amended(&measured_heading(65, 150, "CD")), 20, row, member)
+}
+
+/// A file of another plan, amendments and members, of up to three persons; some of its numbers are out of range now and
+/// then.
 pub fn drawn(random: &mut Random) -> Vec<u8> {
     let retire = 50 + random.below(26);
     let salaries = [60_000, 60_000, 60_000, 1_000_010][random.below(4)];
@@ -39,7 +45,7 @@ pub fn drawn(random: &mut Random) -> Vec<u8> {
     let method = METHODS[random.below(5)];
     let (assets, years) = (random.below(9_000_000), 1 + random.below(40));
     let pay = [1, 12][random.below(2)] + random.below(100) / 99;
-    let heading = heading(random.below(2_020), retire, pay, &terms, method, assets, years);
+    let heading = heading(random.below(2_020), retire, pay, &terms, method, assets, years) + &amendments(random);
     let persons = 1 + random.below(3);
     let seed = random.below(1 << 40);
     let [withdrawal, disability] =
@@ -63,6 +69,23 @@ pub fn drawn(random: &mut Random) -> Vec<u8> {
         format!("member={},{person},{entry},{age},{}.{:02}\n", 7 * j + 1, draw(j + 2) % salaries, draw(j + 3) % 100)
     };
     case(&heading, random.below(8), rows, members)
+}
+
+/// The lines of up to 20 amendments, half the time of none. Some are struck; now and then one has the number before or
+/// rests on itself, or they add too much.
+fn amendments(random: &mut Random) -> String {
+    let mut numbers = vec![0];
+    let mut lines = String::new();
+    for _ in 0..[0, 0, 3, 20][random.below(4)] {
+        let before = numbers[numbers.len() - 1];
+        let number = if before > 0 && random.below(60) == 0 { before } else { before + 1 + random.below(40) };
+        let rests = if random.below(60) == 0 { number } else { numbers[random.below(numbers.len())] };
+        let most = [8, 8, 8, 200][random.below(4)];
+        let add = random.below(most);
+        lines += &format!("amend={number},{rests},{add},{}\n", random.below(6) / 5);
+        numbers.push(number);
+    }
+    lines
 }
 
 fn measured_heading(retire: usize, unit: usize, method: &str) -> String {

@@ -1,5 +1,6 @@
 //! A case file read and accepted in Rust, in one pass over the bytes, for the benches to hold the proved one to: RULES
 //! sections 1 to 5 and 7. The answers are the proved ones; bench/casefile says how the work differs.
+use crate::amendments::{Amendment, Amendments};
 use crate::factors::{AGES, FIRST, Row, Rows, nearest_word};
 use crate::persons::Persons;
 
@@ -54,22 +55,26 @@ pub struct Member {
     pub salary: u64,
 }
 
+/// The plan has the unit valued.
 pub struct Case {
     pub plan: Plan,
     pub rows: Rows,
     pub members: Vec<Member>,
 }
 
-/// Reads a case file: its form alone, or with `ranges` its ranges too.
+/// Reads a case file, its form and its ranges.
 #[inline(never)]
-pub fn walk(case: &[u8], ranges: bool) -> Result<Case, Refusal> {
+pub fn walk(case: &[u8]) -> Result<Case, Refusal> {
     if case.len() > LARGEST {
         return Err((1, 0));
     }
     let mut rest = Rest(case);
-    let plan = rest.plan(ranges)?;
-    let rows = rest.rows(ranges)?;
-    let members = rest.members(ranges, &plan, &rows)?;
+    let mut plan = rest.plan(true)?;
+    let amendments = rest.amendments(&plan)?;
+    plan.unit += amendments.additions();
+    let listed = amendments.count as u64;
+    let rows = rest.rows(listed)?;
+    let members = rest.members(listed, &plan, &rows)?;
     Ok(Case { plan, rows, members })
 }
 
@@ -106,10 +111,11 @@ fn unless(kept: bool, number: u64) -> u64 {
     if kept { 0 } else { number }
 }
 
-fn unit_rule(formula: Formula, unit: u64) -> u64 {
+/// The heading's unit, refused with 11, or the unit valued, refused with 55.
+fn unit_rule(formula: Formula, unit: u64, number: u64) -> u64 {
     match formula {
-        Formula::Flat => unless(unit <= 100_000, 11),
-        _ => unless(unit <= 500, 11),
+        Formula::Flat => unless(unit <= 100_000, number),
+        _ => unless(unit <= 500, number),
     }
 }
 
@@ -162,6 +168,7 @@ fn member_rule(plan: &Plan, rows: &Rows, before: u64, nth: usize, m: &Member, pe
 pub struct Rest<'a>(pub &'a [u8]);
 
 impl Rest<'_> {
+    /// The terms: their form alone, or with `ranges` their ranges too.
     pub fn plan(&mut self, ranges: bool) -> Result<Plan, Refusal> {
         const FORMULAS: [(&[u8], Formula); 3] =
             [(b"flat", Formula::Flat), (b"career", Formula::Career), (b"final", Formula::Final)];
@@ -171,7 +178,7 @@ impl Rest<'_> {
         let retire = self.term(ranges, 2, |s| s.keyed(b"retire="), |r| unless((50..=75).contains(&r), 11))?;
         let pay = self.term(ranges, 3, |s| s.keyed(b"pay="), |p| unless(p == 1 || p == MONTHLY, 11))?;
         let formula = self.term(ranges, 4, |s| s.word(b"formula=", &FORMULAS), |_| 0)?;
-        let unit = self.term(ranges, 5, |s| s.keyed(b"unit="), |u| unit_rule(formula, u))?;
+        let unit = self.term(ranges, 5, |s| s.keyed(b"unit="), |u| unit_rule(formula, u, 11))?;
         let average = self.term(ranges, 6, |s| s.keyed(b"average="), |n| average_rule(formula, n))?;
         let method = self.term(ranges, 7, |s| s.word(b"method=", &METHODS), |_| 0)?;
         let assets = self.term(ranges, 8, |s| s.assets(), |a| unless(a <= 99_999_999_999_999, 11))?;
@@ -179,32 +186,44 @@ impl Rest<'_> {
         Ok(Plan { interest, retire, pay, formula, unit, average, method, assets, years })
     }
 
-    fn rows(&mut self, ranges: bool) -> Result<Rows, Refusal> {
+    /// The unit is judged at the last line of the list: where the next bytes are no further one's.
+    fn amendments(&mut self, plan: &Plan) -> Result<Amendments, Refusal> {
+        let mut found = Amendments::new();
+        while self.0.starts_with(b"amend=") {
+            let line = found.count as u64 + 10;
+            kept(found.add(self.line(10, line, Self::amendment)?), line)?;
+            if !self.0.starts_with(b"amend=") {
+                kept(unit_rule(plan.formula, plan.unit + found.additions(), 55), line)?;
+            }
+        }
+        Ok(found)
+    }
+
+    /// After so many amendments.
+    fn rows(&mut self, listed: u64) -> Result<Rows, Refusal> {
         let mut rows = [[0; 4]; AGES];
         let mut before = 0;
         for (row, age) in rows.iter_mut().zip(15..) {
-            let read = self.term(ranges, age - 5, |s| s.row(age), |row| row_rule(age, before, row))?;
+            let read = self.term(true, age - 5 + listed, |s| s.row(age), |row| row_rule(age, before, row))?;
             before = read[3];
             *row = narrow(read);
         }
         Ok(rows)
     }
 
-    fn members(&mut self, ranges: bool, plan: &Plan, rows: &Rows) -> Result<Vec<Member>, Refusal> {
+    fn members(&mut self, listed: u64, plan: &Plan, rows: &Rows) -> Result<Vec<Member>, Refusal> {
         let mut members = Vec::new();
         let mut persons = Persons::new();
         let mut before = 0;
         loop {
             let count = members.len() as u64;
-            let line = count + 116;
+            let line = count + 116 + listed;
             if self.0.starts_with(b"member=") {
                 if members.len() == MEMBERS {
                     return Err(self.refused(27, line));
                 }
                 let m = self.line(20, line, Self::member)?;
-                if ranges {
-                    kept(member_rule(plan, rows, before, members.len() + 1, &m, &mut persons), line)?;
-                }
+                kept(member_rule(plan, rows, before, members.len() + 1, &m, &mut persons), line)?;
                 before = m.id;
                 members.push(m);
             } else {
@@ -215,7 +234,7 @@ impl Rest<'_> {
         }
     }
 
-    /// Takes a line up to 115, and settles its range too where that is asked for.
+    /// Takes a line of the heading's terms or of the table, and settles its range too where that is asked for.
     #[inline(always)]
     fn term<T: Copy>(
         &mut self,
@@ -242,6 +261,16 @@ impl Rest<'_> {
     #[cold]
     pub fn refused(self, number: u64, line: u64) -> Refusal {
         (if self.0.contains(&b'\n') { number } else { 2 }, line)
+    }
+
+    pub fn amendment(&mut self) -> Option<Amendment> {
+        self.key(b"amend=")?;
+        let mut numbers = [self.whole()?, 0, 0, 0];
+        for number in &mut numbers[1..] {
+            self.key(b",")?;
+            *number = self.whole()?;
+        }
+        Some(numbers)
     }
 
     fn row(&mut self, age: u64) -> Option<[u64; 4]> {

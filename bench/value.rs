@@ -8,15 +8,18 @@
 //! The same on both sides: the factors worked, year step by year step, and how often; of each member B(r) to accept it and
 //! again to value it, by AB B(x) and B(x+1), by BP the sums of weights; and the table of persons.rs, cleared for each file,
 //! in which the sum of its person is sought cell by cell. What differs:
-//! - per file, reading and accepting, as casefile.rs says. Rattle keeps the figures in an array of 32,000 bytes, and the
-//!   columns in one of 51,728, both of which it clears; it writes the lines, which surely fit 64 KiB, where they belong, four
-//!   digits at a time. Rust has an Option for each column, writes each line, digit by digit, to a Vec that grows, and copies
-//!   that out where it fits;
+//! - per file, reading and accepting, as casefile.rs says; and the amendments in force are gathered three times in Rattle,
+//!   for the unit's rule, for the members and for the valuation, and in Rust twice, since the plan that accepting hands on
+//!   has the unit valued;
+//! - per file, Rattle keeps the figures in an array of 32,000 bytes, and the columns in one of 51,728, both of which it
+//!   clears; it writes the lines, which surely fit 64 KiB, where they belong, four digits at a time. Rust has an Option for
+//!   each column, writes each line, digit by digit, to a Vec that grows, and copies that out where it fits;
 //! - per member, Rattle makes N and L of the same six numbers by any method: by CD it multiplies by the one year that is
 //!   added, and at x = r by none, where Rust works N and drops it;
 //! - in Rattle the rows go by value, 1,696 bytes, to the annuities of the plain engine, as document 01 wants it, and by
 //!   reference to the columns of the shared one; and each side rounds as in bench/rounding, but for the two roundings of
 //!   staying, which divide a word by a constant on both.
+mod amendments;
 mod engines;
 mod entries;
 mod factors;
@@ -28,7 +31,7 @@ mod reader;
 
 use entries::{ALL, Answer, Entry, Entry::*, VALUING};
 use files::{PERSONS, Random};
-use plans::{METHODS, all_pairs, drawn, measured, nearly_all, of_persons};
+use plans::{METHODS, all_pairs, drawn, measured, nearly_all, of_persons, with_amendments};
 use reader::MEMBERS;
 use std::collections::BTreeMap;
 use std::io::Write;
@@ -206,7 +209,7 @@ fn check<'a>(files: impl Iterator<Item = &'a File>) {
     let mut refused = BTreeMap::new();
     files.for_each(|file| assert!(compare_rooms(&file.bytes).is_ok()));
     let mut good = METHODS.map(|method| measured(method, 20)).to_vec();
-    good.push(nearly_all());
+    good.extend([nearly_all(), with_amendments()]);
     for j in 0..DRAWN + DAMAGED {
         let case = if j < DRAWN { drawn(&mut random) } else { random.damaged(&good[j % good.len()]) };
         if let Err((number, _)) = compare_rooms(&case) {
@@ -214,7 +217,7 @@ fn check<'a>(files: impl Iterator<Item = &'a File>) {
         }
     }
     println!("{DRAWN} drawn plans and {DAMAGED} damaged files: the same answers and bytes; refused: {refused:?}");
-    assert!([25, 28, 29].iter().all(|number| refused.contains_key(number)));
+    assert!([25, 28, 29, 53, 54, 55].iter().all(|number| refused.contains_key(number)));
 }
 
 fn main() {

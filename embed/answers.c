@@ -41,7 +41,7 @@ static int answers_member(void) {
     for (int j = 0; j < 4; j++) {
         figures[j] = UINT64_MAX - j;
     }
-    printf("member=%" PRIu64, kuyeshan_value_member(plan, rows, member, figures));
+    printf("member=%" PRIu64, kuyeshan_value_member(plan, amendments, amendments_count, rows, member, figures));
     for (int j = 0; j < 4; j++) {
         printf(",%" PRIu64, figures[j]);
     }

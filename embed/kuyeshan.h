@@ -18,6 +18,9 @@
  *     12  the average doesn't suit the formula
  *     14  the death rate at age 120 isn't 1000000
  *     15  the weight is out of range, or below that of the age before
+ *     53  an amendment's number isn't above the one before, or it is the twenty-first
+ *     54  an amendment rests on a number that isn't listed before it
+ *     55  the unit with the additions in force is beyond its range
  *   the payroll office mends:
  *     20  neither a member nor an end line, or its form is wrong
  *     21  the id is out of range, or not above the one before
@@ -79,17 +82,28 @@ uint64_t kuyeshan_refusal_line(uint64_t number, uint64_t line, uint8_t *out, siz
  *             interest, retire, pay (1 a pension paid by the year, 12 by the month),
  *             formula (1 flat, 2 career, 3 final), unit, average,
  *             method (1 AB, 2 BD, 3 BP, 4 CD, 5 CP), assets, years
+ *   amendments, amendments_count
+ *             the plan's amendments, up to 20, and how many they are; there may be none. Each is four numbers: its own
+ *             number, which is above the one before; the number of an earlier one on which it rests, or 0; what it adds to
+ *             the unit; and 1 where it is struck out, or 0. It is in force where it isn't struck and what it rests on, if
+ *             anything, is in force (rule 2.12). The unit in `plan` is the heading's; to it what the amendments in force
+ *             add is added, and the sum is the unit valued (rule 2.13). In C before C23 a compiler asked for -Wpedantic
+ *             may want an array that isn't const cast to `const uint64_t (*)[4]`
  *   rows      for each age from 15 to 120 in turn: death, withdrawal and disability in millionths, each the rate of its
  *             cause alone, and the weight
  *   member    id, person, entry age, age, salary in cents a year
  *   figures   in whole cents, halfway to the even cent (rule 6.1): the yearly benefit, its present value, the
  *             normal cost, the liability
- * 0, or the first refusal, from 10 on, which leaves `figures` as they were. It is never 29: to a lone member's benefit
- * nothing is added, and 25 asks for it first (rule 5.5). A program that was written before `plan` had pay, with eight
- * numbers, or before `member` had person, with four, must be changed and built again: the function's name is the same, and
- * so is its type, since pointers are what is passed. No compiler has to notice. */
-uint64_t kuyeshan_value_member(const uint64_t plan[9], const uint32_t rows[424], const uint64_t member[5],
-                               uint64_t figures[4]);
+ * 0, or the first refusal, from 10 on, which leaves `figures` as they were: of the plan's numbers, then of the amendments
+ * in turn, then of the rows, then of the member (rules 5.3 and 5.6). It is never 29: to a lone member's benefit nothing is
+ * added, and 25 asks for it first (rule 5.5).
+ *
+ * A program that was written before there were amendments must be changed and built again: the function's name is the
+ * same, but it takes two arguments more, so a compiler that reads this header notices. It is the count of arguments alone
+ * that a compiler has to notice: that `plan` has nine numbers, eight before there was pay, and `member` five, four before
+ * there was person, is no part of a type. */
+uint64_t kuyeshan_value_member(const uint64_t plan[9], const uint64_t (*amendments)[4], size_t amendments_count,
+                               const uint32_t rows[424], const uint64_t member[5], uint64_t figures[4]);
 
 #ifdef __cplusplus
 }

@@ -26,7 +26,9 @@ static void values(void) { kuyeshan_value(bytes, length, out, room, &line, &writ
 static void values_plain(void) { kuyeshan_value_plain(bytes, length, out, room, &line, &written); }
 static void values_shared(void) { kuyeshan_value_shared(bytes, length, out, room, &line, &written); }
 static void refuses(void) { kuyeshan_refusal_line(UINT64_MAX, UINT64_MAX, out, room, &written); }
-static void values_member(void) { kuyeshan_value_member(plan, rows, member, figures); }
+static void values_member(void) {
+    kuyeshan_value_member(plan, amendments, amendments_count, rows, member, figures);
+}
 
 /* Those that a case file is for, and the one for plain values. */
 static struct call {

@@ -10,7 +10,6 @@ import random
 import struct
 import subprocess
 import sys
-from bisect import bisect_left
 from collections import defaultdict
 from itertools import product
 from pathlib import Path
@@ -18,17 +17,18 @@ from typing import NamedTuple
 
 import commands
 from case_oracle import Refused, accepting, reading, walk
-from oracle import AGES, FIRST, LAST, NO_PAYS, PAYS, level_table, short_table
+from oracle import AGES, FIRST, LAST, MOST_AMENDMENTS, NO_PAYS, PAYS, level_table, short_table
 
 ROOT = Path(__file__).parent.parent
 CRATE = ROOT / 'crates' / 'test_case_answers'
 PROGRAM = ROOT / 'target' / 'bin' / 'test_case_answers'
 PRIME = 1000003
-READING = {1, 2, 3, 4, 10, 20, 27}
-ACCEPTING = READING | {11, 12, 14, 15, 21, 22, 23, 24, 25, 28, 29}
+READING = {1, 2, 3, 4, 10, 20, 27, 53}
+ACCEPTING = READING | {11, 12, 14, 15, 21, 22, 23, 24, 25, 28, 29, 54, 55}
 # The refusals of one line in their order (rule 12.4).
-ON_ONE_LINE = 2, 27, 3, 4, 10, 11, 12, 14, 15, 20, 21, 28, 22, 23, 24, 25, 29
-# The last lines of the heading and of the table (rules 2.1 and 3.1).
+ON_ONE_LINE = 2, 27, 3, 4, 10, 11, 12, 14, 15, 53, 54, 55, 20, 21, 28, 22, 23, 24, 25, 29
+# The last line of the heading's terms, and that of the table in a file without amendments: each of these moves it down by
+# a line (rules 2.1, 2.11 and 3.1).
 HEADING_END, TABLE_END = 9, 115
 # A field of 32 bits loses it: a good number with this added is good again there.
 LOST = 2**32
@@ -52,14 +52,19 @@ def heading(**changed):
 
 def final_heading(**changed):
     """5 percent of the last year's pay for each year of service, as in rules 14.13 and 14.17."""
-    return heading(formula='final', unit='500', average='1', **changed)
+    return heading(**{'formula': 'final', 'unit': '500', 'average': '1', **changed})
 
 
 def rows(table):
     return [f'row={age},{",".join(map(str, table[age]))}'.encode() for age in AGES]
 
 
+def amend(number, rests=0, add=0, struck=0):
+    return f'amend={number},{rests},{add},{struck}'.encode()
+
+
 def file(head, table, members):
+    """The head is the heading, and after it the amendments."""
     return b''.join(line + b'\n' for line in head + rows(table) + members + [b'end=%d' % len(members)])
 
 
@@ -68,28 +73,35 @@ def member(id, entry=63, age=64, salary='0.00', person=1):
 
 
 def good_files():
-    """Of each formula and each pay, with no, one and some members, of whom two lines that aren't neighbours are one
-    person's."""
+    """Of each formula and each pay, with no, one and some amendments, and with no, one and some members, of whom two lines
+    that aren't neighbours are one person's. The units valued are 10000, 200 and 500."""
     table = short_table()
     rising = {age: (death, 10 * age if death == 0 else 0, 0, 1000 + age) for age, (death, *_, _) in table.items()}
     return [
         file(heading(), table, [member(7)]),
         file(heading(), table, []),
-        file(heading(pay='12', formula='career', unit='200', method='BP'), rising,
+        file(heading(pay='12', formula='career', unit='150', method='BP') +
+             [amend(3, 0, 30), amend(4, 3, 20), amend(11, 3, 100000, 1), amend(12, 11, 300)], rising,
              [member(1, 20, 40, '10000.00'), member(2, 64, 64, '1000000.00', person=999999999),
               member(999999999, 15, 65, '0.01')]),
-        file(heading(formula='final', unit='500', average='10', method='CP', interest='0', retire='75', years='40',
-                     assets='999999999999.99'), rising, [member(5, 15, 15, '12345.67')]),
+        file(heading(formula='final', unit='499', average='10', method='CP', interest='0', retire='75', years='40',
+                     assets='999999999999.99') + [amend(999, 0, 1)], rising, [member(5, 15, 15, '12345.67')]),
     ]
 
 
 def ranges():
-    """A number just inside its range, and just outside it; an id also far outside, where 32 bits of it are inside."""
+    """A number just inside its range, and just outside it; some also far outside, where 32 bits of them are inside."""
     level, final = level_table(), final_heading()
     return [
         *(file(heading(retire=str(r)), level, []) for r in (49, 50, 75, 76)),
         *(file(heading(interest=str(i)), level, []) for i in (2000, 2001)),
         *(file(heading(pay=str(pay)), level, []) for pay in (*PAYS, *NO_PAYS)),
+        *(file(heading(unit=0) + [amend(number)], level, []) for number in (0, 1, 999, 1000, LOST + 1)),
+        *(file(heading(unit=0) + [amend(1), amend(2, rests)], level, []) for rests in (0, 1, 2, 999, 1000, LOST + 1)),
+        *(file(heading(unit=0) + [amend(1, 0, add)], level, []) for add in (100000, 100001, LOST)),
+        *(file(heading(unit=0) + [amend(1, 0, 0, struck)], level, []) for struck in (0, 1, 2, LOST + 1)),
+        *(file(heading(unit=unit) + [amend(1, 0, 1)], level, []) for unit in (99999, 100000)),
+        *(file(final_heading(unit=unit) + [amend(1, 0, 1)], level, []) for unit in (499, 500)),
         *(file(heading(), {**level, 30: (*row, 1000)}, []) for most in (1000000, 1000001)
           for row in ((most, 1, 1), (1, most, 1), (1, 1, most), (most, most, most))),
         *(file(heading(), {**level, 15: (0, 0, 0, weight)}, []) for weight in (999, 1000, 1001)),
@@ -129,6 +141,7 @@ def worked():
     yield file(heading(), level, [member(7, salary='4125.50.75')]), (20, 116), (20, 116)
     yield file(final_heading(), level, [member(7, 44, 64, '1000000.00')]), None, (25, 116)
     yield from worked_pays(level)
+    yield from worked_amendments(level)
     yield from worked_persons()
     yield from worked_widths()
 
@@ -166,6 +179,39 @@ def misplaced_pays(case):
     for size in range(start, start + len(pay) + 1):
         yield case[:size], (2, 3), (2, 3)
         yield case[:size].replace(b'retire=65', b'retire=49'), (2, 3), (11, 2)
+
+
+def worked_amendments(level):
+    """Rules 2.11 to 2.13 in a few files; tests/amendments.py has many more."""
+    def of(*amendments, unit=99000, **terms):
+        return file(heading(unit=unit, **terms) + [amend(*one) for one in amendments], level, [])
+
+    yield of((1, 0, 1000, 0)), None, None
+    yield of((1, 0, 1001, 0)), None, (55, 10)
+    # What is struck adds nothing, nor what rests on it, near or far; and what rests on none of these does.
+    struck, resting, far, other = (1, 0, 1001, 1), (2, 1, 1001, 0), (3, 2, 1001, 0), (4, 0, 1000, 0)
+    yield of(struck, resting, far, other), None, None
+    yield of(struck, resting, far, (4, 0, 1001, 0)), None, (55, 13)
+    yield of((1, 0, 0, 0), resting, far, other), None, (55, 13)
+    yield of((1, 0, 1001, 0), (2, 1, 0, 1), (3, 2, 0, 0), (4, 3, 0, 0)), None, (55, 13)
+    # Beyond its range from the first line on, the unit is refused at the last one.
+    yield of((1, 0, 1001, 0), (2, 0, 0, 0), (3, 0, 0, 1)), None, (55, 12)
+    for formula, average in (('career', 0), ('final', 1)):
+        yield of((1, 0, 1, 0), formula=formula, average=average, unit=499), None, None
+        yield of((1, 0, 2, 0), formula=formula, average=average, unit=499), None, (55, 10)
+        yield of((1, 0, 100000, 1), formula=formula, average=average, unit=500), None, None
+    # Each field beyond its range; the numbers; what is rested on.
+    for wrong in ((0, 0, 0, 0), (1000, 0, 0, 0), (7, 1000, 0, 0), (7, 0, 100001, 0), (7, 0, 0, 2)):
+        yield of(wrong), None, (11, 10)
+    for number in (5, 4, 1):
+        yield of((5, 0, 0, 0), (number, 0, 0, 0)), None, (53, 11)
+    for rests in (4, 6, 7, 999):
+        yield of((5, 0, 0, 0), (6, rests, 0, 0), (7, 0, 0, 0)), None, (54, 11)
+    twenty = [(number, 0, 0, 0) for number in range(1, MOST_AMENDMENTS + 1)]
+    yield of(*twenty), None, None
+    yield of(*twenty, (21, 0, 0, 0)), (53, 30), (53, 30)
+    yield of(*twenty, (21, 0, 0, 2)), (53, 30), (11, 30)
+    yield of(*twenty, (21, 0, 0, '00')), (10, 30), (10, 30)
 
 
 # ---- one person on several lines
@@ -341,7 +387,7 @@ NO_AMOUNT = [b'', b'0', b'1.0', b'1.000', b'.00', b'01.00', b'-1.00', b'1.00.00'
              b'9999999999999.00']
 # By the key of a line, what is given for each of its numbers that is too large. No assets are.
 TOO_LARGE = {b'interest': [11], b'retire': [11], b'pay': [11], b'unit': [11], b'average': [12], b'years': [11],
-             b'row': [10, 11, 11, 11, 15], b'member': [21, 28, 22, 23, 24], b'end': [4]}
+             b'amend': [11, 11, 11, 11], b'row': [10, 11, 11, 11, 15], b'member': [21, 28, 22, 23, 24], b'end': [4]}
 
 
 class Fault(NamedTuple):
@@ -362,18 +408,27 @@ def first_of(faults):
 
 def two_fault_bases():
     """Each formula, with members that are far from every bound, the first and the last of them one person; the rates of a
-    row sum to more than a million, and the weights rise, so that one can fall."""
+    row sum to more than a million, and the weights rise, so that one can fall. Some have amendments, the last of which is
+    in force; by career and final the unit valued is the largest."""
+    some = [amend(10, 0, 100), amend(20, 10, 100), amend(30, 20, 400, 1), amend(40, 30, 500), amend(50, 20, 0)]
     rising = {age: (400000, 700000, 10, 1000 + age) if age < 120 else (1000000, 0, 0, 1120) for age in AGES}
     members = [member(10, 20, 40, '500.00', ONE), member(20, 30, 50, '600.00', ANOTHER),
                member(30, 25, 60, '700.00', ONE)]
-    for terms in (dict(unit='900'), dict(pay='12', formula='career', unit='500'),
-                  dict(formula='final', unit='500', average='3')):
-        yield file(heading(**terms), rising, members).split(b'\n')[:-1]
+    for terms, amendments in ((dict(unit='900'), some), (dict(pay='12', formula='career', unit='500'), []),
+                              (dict(formula='final', unit='450', average='3'), [amend(7, 0, 50)]),
+                              (dict(formula='career', unit='300'), some)):
+        yield file(heading(**terms) + amendments, rising, members).split(b'\n')[:-1]
 
 
-def kind_of(line):
-    """Whether it is of the heading, of the table, of these three members, or from the end line on."""
-    return bisect_left((HEADING_END, TABLE_END, TABLE_END + 3), line)
+def lines_of(lines, key):
+    """The numbers of the lines with this key."""
+    return [number for number, line in enumerate(lines, 1) if parts_of(line)[0] == key]
+
+
+def kind_of(lines, line):
+    """Whether it is of the heading, of the amendments, of the table, of the members, or from the end line on."""
+    key = parts_of(lines[line - 1])[0] if line < len(lines) else b'end'
+    return key if key in (b'amend', b'row', b'member', b'end') else b'heading'
 
 
 def parts_of(line):
@@ -389,19 +444,34 @@ def range_faults(lines):
             *((6, text, 12) for text in ((b'0', b'11') if formula == b'final' else (b'1', b'10'))),
             (9, b'0', 11), (9, b'41', 11)]
     yield from (Fault(line, 1, text, number) for line, text, number in head)
-    for line in range(HEADING_END + 1, TABLE_END + 1):
+    for line in lines_of(lines, b'amend'):
+        yield from amendment_range_faults(lines, line)
+    for line in lines_of(lines, b'row'):
         yield from row_range_faults(lines, line)
-    for line in range(TABLE_END + 1, len(lines)):
+    for line in lines_of(lines, b'member'):
         yield from member_range_faults(lines, line)
-    yield from too_large_benefits(formula)
+    yield from too_large_benefits(lines, formula)
     yield from (fault for fault in wide_faults(lines) if fault.number not in READING)
 
 
-def too_large_benefits(formula):
+def too_large_benefits(lines, formula):
     """Of the first member; and of the last, whose own comes to 999400.00 or so and is its person's second, after more than
     1100.00. By flat none is too large."""
-    last = {b'career': b'507150.00', b'final': b'498300.00'}.get(formula)
-    return [Fault(TABLE_END + 1, 5, b'1000000.00', 25), Fault(TABLE_END + 3, 5, last, 29)] if last else []
+    salary = {b'career': b'507150.00', b'final': b'498300.00'}.get(formula)
+    first, *_, last = lines_of(lines, b'member')
+    return [Fault(first, 5, b'1000000.00', 25), Fault(last, 5, salary, 29)] if salary else []
+
+
+def amendment_range_faults(lines, line):
+    """The last one is in force, and so its addition alone can make the unit too large; in another line that is no fault of
+    the line."""
+    numbers = [parts_of(lines[other - 1])[1] for other in lines_of(lines, b'amend')]
+    place = line - HEADING_END - 1
+    said = [(1, b'0', 11), (1, b'1000', 11), (2, b'1000', 11), (3, b'100001', 11), (4, b'2', 11), (4, b'999999999999', 11),
+            *((1, before, 53) for before in numbers[:place]), *((2, rests, 54) for rests in (b'999', *numbers[place:]))]
+    if place + 1 == len(numbers):
+        said.append((3, b'100000', 55))
+    return [Fault(line, part, text, number) for part, text, number in said]
 
 
 def row_range_faults(lines, line):
@@ -417,7 +487,8 @@ def row_range_faults(lines, line):
 
 def member_range_faults(lines, line):
     entry = int(parts_of(lines[line - 1])[3])
-    before = parts_of(lines[line - 2])[1] if line > TABLE_END + 1 else b'0'
+    key, before, *_ = parts_of(lines[line - 2])
+    before = before if key == b'member' else b'0'
     said = [(1, b'0', 21), (1, b'1000000000', 21), (1, before, 21), *((2, b'%d' % person, 28) for person in NO_PERSONS),
             (3, b'14', 22), (3, b'65', 22), (3, b'0', 22), (4, b'%d' % (entry - 1), 23), (4, b'66', 23),
             (5, b'1000000.01', 24), (5, b'999999999999.99', 24)]
@@ -449,7 +520,7 @@ def worked_widths():
 def form_faults(lines):
     for line, text in enumerate(lines, 1):
         key, *values = parts_of(text)
-        number = 10 if line <= TABLE_END else 20
+        number = 20 if key in (b'member', b'end') else 10
         yield from (Fault(line, 0, wrong, number) for wrong in (key[1:], key.upper(), b' ' + key, b''))
         for part, value in enumerate(values, 1):
             yield from (Fault(line, part, wrong, number) for wrong in no_values(key, value))
@@ -489,11 +560,11 @@ def both_faults(lines, of_range, of_form):
     return with_faults(lines, [of_range, of_form]), first_of([of_form]), first_of([of_range, of_form])
 
 
-def grouped(faults):
+def grouped(lines, faults):
     """Lists of them, by the kind of their line and by their number."""
     groups = defaultdict(list)
     for fault in faults:
-        groups[kind_of(fault.line), fault.number].append(fault)
+        groups[kind_of(lines, fault.line), fault.number].append(fault)
     return groups.values()
 
 
@@ -507,8 +578,9 @@ def drawn_pairs(rng, of_range, of_form, count):
 
 
 def two_faults(count, seed=6):
-    """Some files with too many members, one that is too long. Then, of each base, so many pairs of each kind and number of
-    a fault of range with each of a fault of form: drawn from all of them alike, 25 and 29 would hardly occur."""
+    """Some files with too many members or amendments, one that is too long. Then, of each base, so many pairs of each kind
+    and number of a fault of range with each of a fault of form: drawn from all of them alike, 25 and 29 would hardly
+    occur."""
     lines = many(1001).split(b'\n')[:-1]
     surplus = Fault(1116, 0, b'member', 27)
     for of_range in (Fault(2, 1, b'49', 11), Fault(3, 1, b'13', 11), Fault(115, 2, b'999999', 14),
@@ -516,10 +588,23 @@ def two_faults(count, seed=6):
                      Fault(1116, 1, b'0', 21), Fault(1116, 2, b'0', 28), Fault(1116, 5, b'1000000.01', 24)):
         yield both_faults(lines, of_range, surplus)
     yield with_faults(lines[:200], [Fault(1, 1, b'2001', 11)]).ljust(70000, b'x'), (1, 0), (1, 0)
+    yield from too_many_amendments()
     rng = random.Random(seed)
     for lines in two_fault_bases():
-        for of_range, of_form in product(grouped(range_faults(lines)), grouped(form_faults(lines))):
+        for of_range, of_form in product(grouped(lines, range_faults(lines)), grouped(lines, form_faults(lines))):
             yield from (both_faults(lines, *pair) for pair in drawn_pairs(rng, of_range, of_form, count))
+
+
+def too_many_amendments():
+    """The twenty-first stands on line 30. It is refused before the unit is, which 20 of them bring to 20000 here."""
+    amendments = [amend(number, number - 1, 500) for number in range(1, MOST_AMENDMENTS + 2)]
+    lines = file(heading() + amendments, level_table(), [member(7)]).split(b'\n')[:-1]
+    surplus = Fault(HEADING_END + MOST_AMENDMENTS + 1, 0, b'amend', 53)
+    for of_range in (Fault(5, 1, b'100001', 11), Fault(9, 1, b'41', 11), Fault(10, 2, b'1', 54), Fault(11, 1, b'1', 53),
+                     Fault(29, 1, b'1000', 11), Fault(29, 2, b'20', 54), Fault(30, 1, b'0', 11), Fault(30, 2, b'1000', 11),
+                     Fault(30, 3, b'100001', 11), Fault(30, 4, b'2', 11), Fault(30, 2, b'21', 54),
+                     Fault(30, 3, b'100000', 55), Fault(31, 5, b'999', 15), Fault(137, 1, b'0', 21)):
+        yield both_faults(lines, of_range, surplus)
 
 
 def all_files():
@@ -550,12 +635,13 @@ def answers(case):
     said = reading(case)
     yield 'refused=%d,%d' % said if said else 'read'
     try:
-        plan, table, members = walk(case, True)
+        plan, amendments, table, members = walk(case, True)
     except Refused as refusal:
         yield 'refused=%d,%d' % refusal.args
         return
-    checks = sum_of(cell for age in AGES for cell in table[age]), sum_of(field for m in members for field in m)
-    yield 'accepted=' + ','.join(map(str, (*plan, len(members), *checks)))
+    checks = [sum_of(number for numbers in each for number in numbers)
+              for each in (amendments, (table[age] for age in AGES), members)]
+    yield 'accepted=' + ','.join(map(str, (*plan, len(amendments), len(members), *checks)))
 
 
 def given(files):
@@ -563,8 +649,8 @@ def given(files):
 
 
 def stored_files():
-    persons = [case for case, _, _ in (*worked_spells(), *worked_orders())]
-    cases = good_files() + persons + [b'', many(1001)] + cut(good_files()[0])[:40]
+    worked = [case for case, _, _ in (*worked_amendments(level_table()), *worked_spells(), *worked_orders())]
+    cases = good_files() + worked + [b'', many(1001)] + cut(good_files()[0])[:40]
     return {
         CRATE / 'stdin': given(cases),
         CRATE / 'stdout': ''.join(f'{line}\n' for case in cases for line in answers(case)).encode(),
@@ -593,7 +679,8 @@ def hold(name, files):
 def check():
     faulty = list(two_faults(3))
     hold_oracle('case_files', [*worked(), *faulty])
-    undecided = ACCEPTING - READING - {number for _, _, (number, _) in faulty}
+    # 53 is reading's too, for a twenty-first: here it is for the order, where reading gives another number.
+    undecided = (ACCEPTING - READING | {53}) - {number for _, (read, _), (number, _) in faulty if number != read}
     if undecided:
         sys.exit(f'case_files: no file with two faults is refused with {sorted(undecided)}')
     files = all_files() + [case for case, _, _ in faulty]

@@ -5,8 +5,8 @@ An answer is None where the file is read, or accepted, and else the refusal's nu
 import re
 from collections import Counter
 
-from oracle import (AGES, MOST_BENEFIT, Member, Plan, benefit, outside, refusal_of_member, refusal_of_row,
-                    refusals_of_head)
+from oracle import (AGES, MOST_AMENDMENTS, MOST_BENEFIT, Amendment, Member, Plan, amended, benefit, first, outside,
+                    refusal_of_member, refusal_of_row, refusal_of_unit, refusals_of_amendment, refusals_of_head)
 
 MOST_BYTES = 65536
 MOST_MEMBERS = 1000
@@ -18,6 +18,8 @@ HEADING = [
     (b'unit=', WHOLE), (b'average=', WHOLE), (b'method=', rb'(AB|BD|BP|CD|CP)'), (b'assets=', AMOUNT),
     (b'years=', WHOLE),
 ]
+AMENDMENT_KEY = b'amend='
+AMENDMENT = AMENDMENT_KEY + rb','.join([WHOLE] * 4)
 ROW = rb'row=' + rb','.join([WHOLE] * 5)
 MEMBER = rb'member=' + rb','.join([WHOLE] * 4 + [AMOUNT])
 
@@ -40,6 +42,10 @@ class Lines:
         line, self.at = self.case[self.at:end], end + 1
         return line
 
+    def begin(self, key):
+        """Whether the next bytes are these, be they of a whole line or not."""
+        return self.case.startswith(key, self.at)
+
     def refuse(self, number):
         if number:
             raise Refused(number, self.number)
@@ -57,6 +63,25 @@ def heading(lines, ranges):
             so_far = Plan(*values, *[0] * (len(HEADING) - len(values)))
             lines.refuse(list(refusals_of_head(so_far))[place])
     return Plan(*values)
+
+
+def amendments(lines, plan, ranges):
+    """Rule 2.11, a line for each as long as lines begin with the key. Without the ranges, only their count is limited. The
+    unit is judged at the line after which no other follows (rule 2.13)."""
+    found = []
+    while lines.begin(AMENDMENT_KEY):
+        form = re.fullmatch(AMENDMENT, lines.next())
+        if not form:
+            lines.refuse(10)
+        one = Amendment(*map(int, form.groups()))
+        if ranges:
+            lines.refuse(first(refusals_of_amendment(one, found)))
+        elif len(found) == MOST_AMENDMENTS:
+            lines.refuse(53)
+        found.append(one)
+        if ranges and not lines.begin(AMENDMENT_KEY):
+            lines.refuse(refusal_of_unit(plan, found))
+    return found
 
 
 def table(lines, ranges):
@@ -102,13 +127,15 @@ def members(lines, plan, rows, ranges):
 
 
 def walk(case, ranges):
-    """Rule 1.7: the plan, the rows and the members."""
+    """Rule 1.7: the plan with the heading's unit, the amendments, the rows and the members."""
     if len(case) > MOST_BYTES:
         raise Refused(1, 0)
     lines = Lines(case)
     plan = heading(lines, ranges)
+    listed = amendments(lines, plan, ranges)
     rows = table(lines, ranges)
-    return plan, rows, members(lines, plan, rows, ranges)
+    # Where no ranges are asked for, a list may rest on nothing, and no unit counts.
+    return plan, listed, rows, members(lines, amended(plan, listed) if ranges else plan, rows, ranges)
 
 
 def answer(case, ranges):

@@ -20,6 +20,7 @@ import tempfile
 from itertools import zip_longest
 from pathlib import Path
 
+from amendments import with_list
 from case_files import ACCEPTING, HALF, OVER_HALF, filled, many, spell, spells
 from value_oracle import lines
 
@@ -33,6 +34,8 @@ RULES = ACCEPTING | {30}
 # What they listed once. These stand in no list again, and the command doesn't take one for an answer.
 RETIRED = {13, 26}
 SENDER, ACTUARY, PAYROLL = 'the sender of the file', 'the plan actuary', 'the payroll office'
+# In the order in which the words of the refusals are listed.
+MENDERS = SENDER, ACTUARY, PAYROLL, 'the calling program'
 CR = 'the line ends in CR, byte 13; save the file with line ends LF'
 MARK = 'the file begins with a byte-order mark; save it as plain text without one'
 UTF8 = b'\xef\xbb\xbf'
@@ -135,6 +138,13 @@ def faults():
     yield 12, 6, ACTUARY, edited(l6='average=1')
     yield 14, 115, ACTUARY, edited(l115='row=120,999999,0,0,1100')
     yield 15, 10, ACTUARY, edited(l10='row=15,0,0,0,999')
+    yield 10, 10, ACTUARY, with_list(GOOD, [b'amend=1,0,0'])
+    yield 11, 10, ACTUARY, with_list(GOOD, [(1, 0, 100001, 0)])
+    yield 15, 12, ACTUARY, with_list(edited(l10='row=15,0,0,0,999'), [(1, 0, 50, 0), (2, 1, 50, 0)])
+    yield 53, 11, ACTUARY, with_list(GOOD, [(5, 0, 0, 0), (5, 0, 0, 0)])
+    yield 53, 30, ACTUARY, with_list(GOOD, [(number, 0, 0, 0) for number in range(1, 22)])
+    yield 54, 11, ACTUARY, with_list(GOOD, [(5, 0, 0, 0), (6, 4, 0, 0)])
+    yield 55, 11, ACTUARY, with_list(GOOD, [(5, 0, 90000, 0), (6, 5, 1, 0)])
     yield 20, 116, PAYROLL, BAD
     yield 20, 116, PAYROLL, edited(l116='member=7,63,64,0.00')
     yield 20, 117, PAYROLL, edited(l117='end=01')
@@ -185,6 +195,7 @@ def check_hints(table):
             ('CR LF', ended, 10, 1, rf'"{first}\r"', CR),
             ('CR alone', GOOD.replace(b'\n', b'\r'), 2, 1,
              '"' + GOOD[:80].decode().replace('\n', r'\r') + f'".. of {len(GOOD)} bytes', CR),
+            ('CR LF after an amendment', with_list(GOOD, [b'amend=1,0,0,0\r']), 10, 10, r'"amend=1,0,0,0\r"', CR),
             ('CR LF after a row', edited(l10='row=15,0,0,0,1000\r'), 10, 10, r'"row=15,0,0,0,1000\r"', CR),
             ('CR LF after a member', edited(l116='member=7,1,63,64,0.00\r'), 20, 116, r'"member=7,1,63,64,0.00\r"', CR),
             ('CR LF at the end', edited(l117='end=1\r'), 20, 117, r'"end=1\r"', CR),
@@ -602,11 +613,12 @@ def check_own_fault(copy):
 # ---- the words
 
 def words():
-    """By number, who mends it and what is wrong; in the order of the table."""
+    """By number, who mends it and what is wrong; in the order of the table, which has together what one can mend."""
     if RETIRED & RULES:
         sys.exit(f'desk: {RETIRED & RULES} was retired, and is in use again')
     first, *rest = [line.split('\t') for line in TABLE.read_text(encoding='utf-8').splitlines()]
-    if first != ['number', 'who mends it', 'what is wrong'] or sorted(rest, key=lambda line: int(line[0])) != rest:
+    ordered = sorted(rest, key=lambda line: (MENDERS.index(line[1]), int(line[0])))
+    if first != ['number', 'who mends it', 'what is wrong'] or ordered != rest:
         sys.exit(f'desk: {TABLE.name} is out of order')
     table = {int(number): (who, what) for number, who, what in rest}
     if len(table) != len(rest) or set(table) != RULES:

@@ -64,7 +64,7 @@ class Quotients:
 
 def quotient(found):
     """What is rounded at the place."""
-    plan, rows, member = found.case()
+    plan, rows, member = found.case().valued()
     kept = Quotients()
     factors = Factors(plan, rows, kept)
     if found.place == 'B':

@@ -28,7 +28,8 @@ def asked_file(case, room):
 
 
 def asked_member(case):
-    return b'm' + case.bytes()
+    """Plain values, with room for no more amendments than there are."""
+    return b'm' + case.packed()
 
 
 @lru_cache(maxsize=1)

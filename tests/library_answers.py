@@ -4,29 +4,51 @@
 
 kuyeshan_read, kuyeshan_accept and the three exports that value a case file get every file of tests/value_files.py and the
 plans stored by tests/halves.py and tests/accuracy_found.py, with an output buffer that just fits, and the files and buffers
-of tests/rooms.py; kuyeshan_value_member gets plain values, accepted and refused ones.
+of tests/rooms.py; kuyeshan_value_member gets plain values, accepted and refused ones, with lists of up to 1,000
+amendments.
 """
 import random
 import sys
+from itertools import product
 
 import accuracy_found
 import commands
 import halves
 import value_files
+from amendments import chain, side_by_side
 from case_files import ACCEPTING, READING
 from library import VALUING, Answers
-from member_figures import REFUSALS, all_extreme, at_edges, at_extremes, at_some_edges, drawn_accepted, drawn_case
+from member_figures import (REFUSALS, all_extreme, at_edges, at_extremes, at_some_edges, drawn_accepted, drawn_case,
+                            drawn_spoiled, known)
 from rooms import files_with_rooms
 from value_oracle import lines
 
 
+# The longest list that embed/cases.h has room for.
+MOST_LISTED = 1000
+
+
+def long_lists(rng):
+    """As many as a list may have, and more: the first fault is given, and what is after it doesn't count."""
+    for count, listed in product((20, 21, 22, 23, 64, 999, MOST_LISTED), (chain, side_by_side)):
+        case = drawn_accepted(rng)
+        made = listed([0] * count)
+        yield case._replace(amendments=tuple(made))
+        for place in {0, min(20, count - 1), count - 1}:
+            wrong = made[place]._replace(struck=2)
+            yield case._replace(amendments=(*made[:place], wrong, *made[place + 1:]))
+
+
 def plain_values(rng):
+    yield from (case for case, _ in known())
+    yield from long_lists(rng)
     for _ in range(3):
         case = drawn_accepted(rng)
         yield from at_edges(case)
         yield from all_extreme(case)
     yield from (at_some_edges(rng, drawn_accepted(rng)) for _ in range(200))
     yield from (at_extremes(rng, drawn_accepted(rng)) for _ in range(200))
+    yield from (drawn_spoiled(rng) for _ in range(200))
     yield from (drawn_case(rng) for _ in range(200))
 
 

@@ -3,10 +3,11 @@
     python3 tests/member_figures.py --write    writes stdin and stdout of crates/test_member_figures
     python3 tests/member_figures.py --check    runs target/bin/test_member_figures on generated members and compares
 
-A case is a plan, its rows and a member. It goes to the program as bytes, a number's little end first, and the program
-answers with three lines: what accepting the plan says, what accepting the member says, and its figures in cents, or the
-number of a refusal. The check also holds each V, N and L to the limits on their distance from the exact fractions (N and
-L: rule 10.9), each exact L to its future-cost form (rule 10.8), and each benefit to that of the age before (rule 7.9).
+A case is a plan, its amendments, its rows and a member. It goes to the program as bytes, a number's little end first, with
+room for 22 amendments after their count, and the program answers with three lines: what accepting the plan says, what
+accepting the member says, and its figures in cents, or the number of a refusal. The check also holds each V, N and L to
+the limits on their distance from the exact fractions (N and L: rule 10.9), each exact L to its future-cost form (rule
+10.8), and each benefit to that of the age before (rule 7.9).
 """
 import random
 import struct
@@ -21,34 +22,51 @@ import accuracy_found
 import commands
 from accuracy_found import TARGETS, named
 from accuracy_search import largest_salary
+from amendments import chain, drawn_amended, drawn_list, side_by_side, spoiled
 from annuity_factors import any_rates, one_takes_all
 from oracle import (AB, AGES, CAREER, CD, CP, FIGURES, FINAL, FIRST, FLAT, FORMULAS, LAST, LIMIT, METHOD_NAMES, METHODS,
-                    MILLION, MONTHLY, MOST_ASSETS, MOST_BENEFIT, MOST_NUMBER, MOST_SALARY, NO_PAYS, PAYS, S, YEARLY,
-                    Factors, Member, Plan, benefit, exact_benefit, exact_costs, level_table, nearest, refusal,
-                    refusal_of_plan, rounded_costs, sharp_limit, short_table, stray, table)
+                    MILLION, MONTHLY, MOST_ADDITION, MOST_AMENDMENT, MOST_AMENDMENTS, MOST_ASSETS, MOST_BENEFIT,
+                    MOST_NUMBER, MOST_SALARY, NO_PAYS, PAYS, S, YEARLY, Amendment, Factors, Member, Plan, amended,
+                    benefit, exact_benefit, exact_costs, level_table, most_unit, nearest, refusal, refusal_of_plan,
+                    rounded_costs, sharp_limit, short_table, stray, table)
 
 ROOT = Path(__file__).parent.parent
 CRATE = ROOT / 'crates' / 'test_member_figures'
 PROGRAM = ROOT / 'target' / 'bin' / 'test_member_figures'
-OF_PLAN = {10, 11, 12, 14, 15}
+OF_PLAN = {10, 11, 12, 14, 15, 53, 54, 55}
 REFUSALS = OF_PLAN | {21, 22, 23, 24, 25, 28}
+# How many amendments the program has room for; and what stands where a list has ended: amendments that would be in force,
+# numbers that no amendment can have, and zeros.
+PLACES = 22
+UNUSED = [Amendment(MOST_AMENDMENT, 0, 1, 0), Amendment(*[2**64 - 1] * 4), Amendment(0, 0, 0, 0)] * PLACES
 
 
 class Case(NamedTuple):
     plan: Plan
     rows: dict
     member: Member
+    amendments: tuple = ()
 
     def bytes(self):
-        rows = b''.join(struct.pack('<4I', *self.rows[k]) for k in AGES)
-        return struct.pack('<9Q', *self.plan) + rows + struct.pack('<5Q', *self.member)
+        return self.packed(PLACES)
+
+    def packed(self, places=0):
+        """With so many places for the amendments at least."""
+        count = len(self.amendments)
+        listed = [*self.amendments, *UNUSED[:max(0, places - count)]]
+        return b''.join([struct.pack('<9QQ', *self.plan, count), *(struct.pack('<4Q', *one) for one in listed),
+                         *(struct.pack('<4I', *self.rows[k]) for k in AGES), struct.pack('<5Q', *self.member)])
+
+    def valued(self):
+        """The plan with the unit that is valued, the rows and the member, where the list is accepted."""
+        return amended(self.plan, self.amendments), self.rows, self.member
 
     def figures(self):
-        return rounded_costs(*self).figures(self.plan.method, self.member.age)
+        return rounded_costs(*self.valued()).figures(self.plan.method, self.member.age)
 
     def lines(self):
         """The lines that the program must write: of the plan, of the member, and of its figures."""
-        of_plan, of_member = refusal_of_plan(self.plan, self.rows), refusal(*self)
+        of_plan, of_member = refusal_of_plan(self.plan, self.rows, self.amendments), refusal(*self)
         yield f'refused={of_plan},0' if of_plan else 'accepted'
         yield f'refused={of_member},0' if of_member else 'accepted'
         yield f'refused={of_member},0' if of_member else 'figures=' + ','.join(map(str, self.figures()))
@@ -87,6 +105,7 @@ def worked():
     yield from worked_bounds(plan)
     yield from worked_pays(plan)
     yield from worked_persons(plan)
+    yield from worked_amendments()
 
 
 def worked_benefits(plan):
@@ -146,9 +165,90 @@ def worked_persons(plan):
             yield of(person=person, **other), 28
 
 
+def listed(*amendments, **terms):
+    """The short case with such a list, and other terms."""
+    case, _ = next(worked())
+    plan = case.plan._replace(method=CD, **terms)
+    return case._replace(plan=plan, amendments=tuple(Amendment(*one) for one in amendments))
+
+
+def worked_amendments():
+    """Rules 2.11 to 2.13 and 5.6: the short case once more, where the heading's unit and the additions in force come to the
+    10000 of it; and each refusal of a list."""
+    said = dict(benefit='200.00', value='181.82', cost='86.58', liability='95.24')
+    yield listed((1, 0, 5000, 0), (2, 1, 1000, 0), unit=4000), said
+    yield listed((1, 0, 5000, 1), (2, 1, 1000, 0), (3, 0, 6000, 0), (4, 2, 1, 0), unit=4000), said
+    yield listed((998, 0, 10000, 0), (999, 998, 100000, 1), unit=0), said
+    yield listed((1, 0, 100000, 1), (2, 1, 100000, 0), (9, 2, 100000, 0)), said
+    yield listed(*chain([500] * MOST_AMENDMENTS), unit=0), said
+    yield listed(*chain([500] * 10 + [100000] * 10, struck=[10]), unit=5000), said
+    yield listed(*side_by_side([500] * MOST_AMENDMENTS), unit=0), said
+    # The largest unit, and 1 more.
+    for add, answer in ((90000, {}), (90001, 55)):
+        yield listed((1, 0, add, 0), (2, 1, 0, 1), (3, 2, 100000, 0)), answer
+    for formula, average in ((CAREER, 0), (FINAL, 1)):
+        for add, answer in ((300, {}), (301, 55)):
+            yield listed((1, 0, add, 0), formula=formula, average=average, unit=200), answer
+    yield listed((1, 0, 90001, 0), (1, 1, 0, 2)), 11
+    yield listed((1, 0, 90001, 0), (1, 9, 0, 0)), 53
+    yield listed((1, 0, 90001, 0), (2, 2, 0, 0)), 54
+    yield listed(*chain([0] * (MOST_AMENDMENTS + 1))), 53
+    # What the additions alone make too large, by the bound of rule 14.17.
+    for salary, answer in (('666666.67', dict(benefit='1000000.00')), ('666666.68', 25)):
+        for struck, said in ((0, answer), (1, {})):
+            case = listed((1, 0, 60, struck), (2, 1, 40, 0), retire=60, formula=FINAL, average=1, unit=400)
+            yield case._replace(member=Member(7, 1, 30, 40, dollars(salary))), said
+
+
+def worked_lists():
+    """More of what is refused of a list, and which refusal comes first beside those of other parts."""
+    yield from refused_fields()
+    for wrong in ((5, 0, 0, 0), (4, 0, 0, 0), (1, 1, 0, 0)):
+        yield listed((5, 0, 100000, 0), wrong), 53
+    yield listed((2, 0, 0, 0), (9, 0, 0, 1), (5, 2, 0, 0)), 53
+    for rests in (1, 4, 6, 7, 999):
+        yield listed((5, 0, 100000, 0), (6, rests, 0, 0), (7, 0, 0, 0)), 54
+    twenty = chain([0] * MOST_AMENDMENTS)
+    yield listed(*twenty), {}
+    for more in ([(21, 0, 0, 0)], [(20, 0, 0, 0)], [(21, 21, 0, 0)], [(21, 0, 100000, 0)], [(21, 0, 0, 0), (22, 0, 0, 0)],
+                 [(21, 0, 0, 0), (22, 0, 0, 2)], [(21, 0, 0, 1), (1, 0, 0, 0)]):
+        yield listed(*twenty, *more), 53
+    for last in ((0, 0, 0, 0), (21, 1000, 0, 0), (21, 0, 100001, 0), (21, 0, 0, 2), (20, 99, 0, 2)):
+        yield listed(*twenty, last), 11
+    yield from beside_others()
+
+
+def refused_fields():
+    """A field beyond its range, also where 32 bits of it are within; alone, and between two others that are wrong."""
+    top = 2**64 - 1
+    for wrong in ((0, 0, 0, 0), (1000, 0, 0, 0), (7, 1000, 0, 0), (7, 0, 100001, 0), (7, 0, 0, 2), (top, 0, 0, 0),
+                  (7, top, 0, 0), (7, 0, top, 0), (7, 0, 0, top), (2**32 + 7, 0, 0, 0), (7, 2**32 + 5, 0, 0),
+                  (7, 0, 2**32, 0), (7, 0, 0, 2**32), (7, 0, 0, 2**32 + 1), (5, 9, 0, 2)):
+        yield listed(wrong), 11
+        yield listed((5, 0, 100000, 0), wrong, (9, 9, 0, 0)), 11
+
+
+def beside_others():
+    """A list comes after all terms of the heading and before all rows, and the member last."""
+    rows, member = {**short_table(), FIRST: (0, 0, 0, 999)}, Member(0, 1, 63, 64, 0)
+    for amendments, number in (([(2, 0, 0, 0), (1, 0, 0, 0)], 53), ([(1, 1, 0, 0)], 54), ([(1, 0, 90001, 0)], 55),
+                               ([(1, 0, 0, 2)], 11), ([(1, 0, 0, 0)], 15)):
+        yield listed(*amendments)._replace(rows=rows), number
+        yield listed(*amendments)._replace(rows=rows, member=member), number
+        for field, value, of_heading in (('method', 6, 10), ('average', 1, 12), ('unit', 100001, 11), ('years', 41, 11)):
+            case = listed(*amendments)._replace(rows=rows)
+            yield case._replace(plan=case.plan._replace(**{field: value})), of_heading
+    yield listed((1, 0, 0, 0))._replace(member=member), 21
+
+
+def known():
+    yield from worked()
+    yield from worked_lists()
+
+
 def check_worked():
     """The oracle gives what is worked by hand."""
-    for case, said in worked():
+    for case, said in known():
         if isinstance(said, int):
             agrees = refusal(*case) == said
         else:
@@ -162,7 +262,7 @@ def check_worked():
 def check_worked_parts():
     """What is worked by hand beside the figures of a member: rules 14.3, 14.4, 14.7, 14.17, 14.19, 14.20, 14.22 and
     14.24."""
-    (plan, rows, member), _ = next(worked())
+    plan, rows, member = next(worked())[0].valued()
 
     def before_rounding(salary):
         final = plan._replace(retire=60, formula=FINAL, unit=500, average=1)
@@ -238,13 +338,13 @@ def drawn_weights(rng):
 
 def drawn_plan(rng):
     formula = rng.choice(FORMULAS)
-    most_unit = 100000 if formula == FLAT else 500
+    most = most_unit(formula)
     return Plan(
         interest=rng.choice([0, 1, 2000, rng.randint(0, 2000)]),
         retire=rng.choice([50, 75, rng.randint(50, 75)]),
         pay=rng.choice(PAYS),
         formula=formula,
-        unit=rng.choice([most_unit, rng.randint(0, most_unit)]),
+        unit=rng.choice([most, rng.randint(0, most)]),
         average=rng.choice([1, 10, rng.randint(1, 10)]) if formula == FINAL else 0,
         method=rng.choice(METHODS),
         assets=rng.choice([0, MOST_ASSETS, rng.randint(0, MOST_ASSETS)]),
@@ -268,8 +368,9 @@ def drawn_member(rng, plan, rows):
 
 
 def drawn_case(rng):
-    plan, rows = drawn_plan(rng), table(drawn_rates(rng), drawn_weights(rng))
-    return Case(plan, rows, drawn_member(rng, plan, rows))
+    plan, amendments = drawn_amended(rng, drawn_plan(rng))
+    rows = table(drawn_rates(rng), drawn_weights(rng))
+    return Case(plan, rows, drawn_member(rng, amended(plan, amendments), rows), amendments)
 
 
 def drawn_accepted(rng):
@@ -279,19 +380,31 @@ def drawn_accepted(rng):
             return case
 
 
+def drawn_spoiled(rng):
+    """With some faults in its list, or with a list whose additions in force are too much by 1."""
+    case = drawn_accepted(rng)
+    if not case.amendments:
+        return case._replace(amendments=(*drawn_list(rng, most_unit(case.plan.formula) - case.plan.unit + 1, 3),))
+    made, _, _ = spoiled(rng, case.amendments, rng.choice([1, 1, 2, 4]))
+    return case._replace(amendments=tuple(made))
+
+
 # ---- cases at the bounds
 
 class Change(NamedTuple):
-    """Other values for some fields of the plan, for the rows of some ages, for some fields of the member."""
+    """Other values for some fields of the plan, for the rows of some ages, for some fields of the member, and for some
+    fields of the amendments at some places."""
     plan: dict = {}
     rows: dict = {}
     member: dict = {}
+    amendments: dict = {}
 
 
 def changed(case, changes):
     for change in changes:
-        case = Case(
-            case.plan._replace(**change.plan), {**case.rows, **change.rows}, case.member._replace(**change.member))
+        amendments = [one._replace(**change.amendments.get(place, {})) for place, one in enumerate(case.amendments)]
+        case = Case(case.plan._replace(**change.plan), {**case.rows, **change.rows},
+                    case.member._replace(**change.member), tuple(amendments))
     return case
 
 
@@ -340,13 +453,30 @@ def member_edges(case):
     return [Change(member={field: value}) for field, of in ranges.items() for value in edges(*of, 2**64 - 1)]
 
 
+def amendment_edges(case):
+    """Of the first and of the last: also those of the order of their numbers, and of what can be rested on."""
+    ranges = dict(number=(1, MOST_AMENDMENT), rests=(0, MOST_AMENDMENT), add=(0, MOST_ADDITION), struck=(0, 1))
+    values = {field: edges(*of, 2**64 - 1) for field, of in ranges.items()}
+    for place in sorted({0, len(case.amendments) - 1}) if case.amendments else ():
+        numbers = [number for one in case.amendments for number in (one.number - 1, one.number, one.number + 1)]
+        more = dict(number=numbers, rests=numbers)
+        for field, of_field in values.items():
+            yield from (Change(amendments={place: {field: value}}) for value in of_field + more.get(field, []))
+
+
+def all_edges(case):
+    """By what they are of. A case that has no list has none of its own."""
+    kinds = plan_edges(case), [*amendment_edges(case)], row_edges(case), member_edges(case)
+    return [kind for kind in kinds if kind]
+
+
 def at_edges(case):
-    return [changed(case, [change]) for change in plan_edges(case) + row_edges(case) + member_edges(case)]
+    return [changed(case, [change]) for kind in all_edges(case) for change in kind]
 
 
 def at_some_edges(rng, case):
     """Two fields or three at their bounds, so that the order of the refusals counts."""
-    kinds = rng.choices([plan_edges(case), row_edges(case), member_edges(case)], k=rng.choice([2, 3]))
+    kinds = rng.choices(all_edges(case), k=rng.choice([2, 3]))
     return changed(case, [rng.choice(kind) for kind in kinds])
 
 
@@ -368,17 +498,23 @@ def at_extremes(rng, case):
         field = rng.choice(Member._fields)
         return Change(member={field: extreme(getattr(case.member, field), 64)})
 
+    def of_amendments():
+        if not case.amendments:
+            return Change()
+        place, field = rng.randrange(len(case.amendments)), rng.choice(Amendment._fields)
+        return Change(amendments={place: {field: extreme(getattr(case.amendments[place], field), 64)}})
+
     # Mostly of the member: its fault is seen only where the plan has none.
-    kinds = rng.choices([of_plan, of_row, of_member], [1, 1, 4], k=rng.choice([1, 2, 3]))
+    kinds = rng.choices([of_plan, of_row, of_member, of_amendments], [1, 1, 4, 1], k=rng.choice([1, 2, 3]))
     return changed(case, [kind() for kind in kinds])
 
 
 def all_extreme(case):
-    """All fields of the plan, of each row or of the member as large as they can be."""
+    """All fields of the plan, of each amendment, of each row or of the member as large as they can be."""
     plan, member = Plan(*[2**64 - 1] * len(Plan._fields)), Member(*[2**64 - 1] * len(Member._fields))
-    rows = dict.fromkeys(AGES, (2**32 - 1,) * 4)
-    return [Case(plan, rows, member), Case(plan, case.rows, case.member), Case(case.plan, rows, member),
-            Case(case.plan, rows, case.member), Case(case.plan, case.rows, member)]
+    rows, amendments = dict.fromkeys(AGES, (2**32 - 1,) * 4), (Amendment(*[2**64 - 1] * 4),) * PLACES
+    return [Case(plan, rows, member, amendments), case._replace(plan=plan), case._replace(amendments=amendments),
+            case._replace(rows=rows, member=member), case._replace(rows=rows), case._replace(member=member)]
 
 
 def at_largest_benefit():
@@ -390,7 +526,7 @@ def at_largest_benefit():
         for method in METHODS:
             plan = Plan(0, 50, YEARLY, FINAL, 500, 1, method, 0, 1)
             case = Case(plan, level_table(), Member(1, 1, 50 - service, 40, salary))
-            assert 10 * (exact_benefit(*case, 50) - MOST_BENEFIT) == tenths
+            assert 10 * (exact_benefit(*case.valued(), 50) - MOST_BENEFIT) == tenths
             yield case
 
 
@@ -427,12 +563,13 @@ def generated(rng):
     cases = [*at_largest_benefit(), *extreme_cases(), *at_ends(), *straying_cases()]
     for formula in FORMULAS:
         case = drawn_accepted(rng)
-        while case.plan.formula != formula:
+        while case.plan.formula != formula or not case.amendments:
             case = drawn_accepted(rng)
         cases += at_edges(case)
         cases += all_extreme(case)
     cases += [at_some_edges(rng, drawn_accepted(rng)) for _ in range(1000)]
     cases += [at_extremes(rng, drawn_accepted(rng)) for _ in range(500)]
+    cases += [drawn_spoiled(rng) for _ in range(500)]
     return cases + [drawn_case(rng) for _ in range(2500)]
 
 
@@ -450,7 +587,7 @@ def stored_files():
 
 
 def differ(case, expected, said):
-    sys.exit(f'member_figures: {case.plan}\n{case.member}\n{case.rows}\n{expected}\n{said}')
+    sys.exit(f'member_figures: {case.plan}\n{case.amendments}\n{case.member}\n{case.rows}\n{expected}\n{said}')
 
 
 def answers(cases):
@@ -466,7 +603,7 @@ def answers(cases):
 def check_exact(case, farthest, everywhere):
     """Holds a valued member to the limits and to the two forms of L, and keeps the farthest of each figure: at its own
     age by the plan's method, or `everywhere`, at each age from entry to retirement by each of the five."""
-    rounded, exact = rounded_costs(*case), exact_costs(*case)
+    rounded, exact = rounded_costs(*case.valued()), exact_costs(*case.valued())
     at = [(case.plan.method, case.member.age)]
     if everywhere:
         at = product(METHODS, range(case.member.entry, case.plan.retire + 1))
@@ -482,7 +619,7 @@ def check_exact(case, farthest, everywhere):
 
 def falls(case):
     """Whether the benefit is below that of the age before, at an age from entry to retirement."""
-    B = [benefit(*case, k) for k in range(case.member.entry, case.plan.retire + 1)]
+    B = [benefit(*case.valued(), k) for k in range(case.member.entry, case.plan.retire + 1)]
     return any(after < before for before, after in zip(B, B[1:]))
 
 
@@ -504,7 +641,7 @@ def turned(rows):
 
 def check():
     check_worked()
-    cases = [case for case, _ in worked()] + generated(random.Random(3))
+    cases = [case for case, _ in known()] + generated(random.Random(3))
     said, farthest = answers(cases), {named(*target): 0 for target in TARGETS}
     for place, (case, lines) in enumerate(zip(cases, said)):
         expected = tuple(case.lines())

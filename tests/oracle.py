@@ -17,6 +17,9 @@ MOST_ASSETS = 99999999999999  # 999999999999.99
 MOST_SALARY = 100000000  # 1000000.00
 MOST_BENEFIT = 100000000  # 1000000.00
 MOST_NUMBER = 999999999  # of an id and of a person
+MOST_AMENDMENTS = 20
+MOST_AMENDMENT = 999  # of an amendment's number, and of the one that it rests on
+MOST_ADDITION = 100000
 
 # How many times a year a pension is paid, and the numbers next to these.
 PAYS = YEARLY, MONTHLY = 1, 12
@@ -36,6 +39,14 @@ class Plan(NamedTuple):
     method: int
     assets: int
     years: int
+
+
+class Amendment(NamedTuple):
+    """Rule 2.11: its number, that of the one that it rests on or 0, what it adds to the unit, and 1 where it is struck."""
+    number: int
+    rests: int
+    add: int
+    struck: int
 
 
 class Member(NamedTuple):
@@ -93,13 +104,19 @@ def outside(value, least, most, number):
     return 0 if least <= value <= most else number
 
 
+def most_unit(formula):
+    """Rule 2.5: the end of a unit's range."""
+    return 100000 if formula == FLAT else 500
+
+
 def refusals_of_head(plan):
-    """Of the plan's own lines, in their order: rules 2.2, 2.3, 2.10 and 2.4 to 2.9, and rule 5.4 for a code."""
+    """Of the plan's own lines, in their order: rules 2.2, 2.3, 2.10 and 2.4 to 2.9, and rule 5.4 for a code. The unit is
+    the heading's, whatever the amendments add to it."""
     yield outside(plan.interest, 0, 2000, 11)
     yield outside(plan.retire, 50, 75, 11)
     yield 0 if plan.pay in PAYS else 11
     yield 0 if plan.formula in FORMULAS else 10
-    yield outside(plan.unit, 0, 100000 if plan.formula == FLAT else 500, 11)
+    yield outside(plan.unit, 0, most_unit(plan.formula), 11)
     yield outside(plan.average, 1, 10, 12) if plan.formula == FINAL else outside(plan.average, 0, 0, 12)
     yield 0 if plan.method in METHODS else 10
     yield outside(plan.assets, 0, MOST_ASSETS, 11)
@@ -117,14 +134,39 @@ def refusal_of_row(rows, k):
     return 15 if falling else outside(weight, 1000, 100000, 15)
 
 
-def refusal_of_plan(plan, rows):
-    """Of the plan and its rows, line by line (rule 5.3)."""
-    return first(refusals_of_head(plan)) or first(refusal_of_row(rows, k) for k in AGES)
+def refusals_of_amendment(one, before):
+    """Rule 2.11, of an amendment after these, in the order of rule 12.4."""
+    yield outside(one.number, 1, MOST_AMENDMENT, 11)
+    yield outside(one.rests, 0, MOST_AMENDMENT, 11)
+    yield outside(one.add, 0, MOST_ADDITION, 11)
+    yield outside(one.struck, 0, 1, 11)
+    rises = not before or one.number > before[-1].number
+    yield 0 if rises and len(before) < MOST_AMENDMENTS else 53
+    yield 0 if one.rests == 0 or one.rests in [other.number for other in before] else 54
+
+
+def refusal_of_unit(plan, amendments):
+    """Rule 2.13, after the last amendment of a list: the range of the unit that is valued."""
+    return outside(unit_valued(plan, amendments), 0, most_unit(plan.formula), 55)
+
+
+def refusals_of_amendments(plan, amendments):
+    """Rule 5.6, of a list in plain values."""
+    for place, one in enumerate(amendments):
+        yield from refusals_of_amendment(one, amendments[:place])
+    if amendments:
+        yield refusal_of_unit(plan, amendments)
+
+
+def refusal_of_plan(plan, rows, amendments=()):
+    """Of the plan, its amendments and its rows, in the order of their lines (rules 5.3 and 5.6)."""
+    return (first(refusals_of_head(plan)) or first(refusals_of_amendments(plan, amendments))
+            or first(refusal_of_row(rows, k) for k in AGES))
 
 
 def refusals_of_member(plan, rows, member, id_before):
-    """Rules 4.2, 4.7, 4.3 to 4.5 and 7.8, in the order of rule 12.4, under an accepted plan. The benefit is worked only
-    where the others are 0. Rule 7.10 is for all lines of a person, and so it isn't here."""
+    """Rules 4.2, 4.7, 4.3 to 4.5 and 7.8, in the order of rule 12.4, under an accepted plan, as it is amended. The benefit
+    is worked only where the others are 0. Rule 7.10 is for all lines of a person, and so it isn't here."""
     yield outside(member.id, id_before + 1, MOST_NUMBER, 21)
     yield outside(member.person, 1, MOST_NUMBER, 28)
     yield outside(member.entry, FIRST, plan.retire - 1, 22)
@@ -142,9 +184,31 @@ def first(refusals):
     return next((number for number in refusals if number), 0)
 
 
-def refusal(plan, rows, member):
-    """Of a plan and a lone member handed in as plain values: rules 5.3 to 5.5."""
-    return refusal_of_plan(plan, rows) or refusal_of_member(plan, rows, member)
+def refusal(plan, rows, member, amendments=()):
+    """Of a plan, its amendments and a lone member handed in as plain values: rules 5.3 to 5.6."""
+    return refusal_of_plan(plan, rows, amendments) or refusal_of_member(amended(plan, amendments), rows, member)
+
+
+# ---- the unit: rules 2.12 and 2.13, for a list in which each rests on an earlier one
+
+def in_force(one, amendments):
+    """Rule 2.12: it isn't struck, and if it rests on another, that one is in force."""
+    return one.struck == 0 and (one.rests == 0 or in_force(rested_on(one, amendments), amendments))
+
+
+def rested_on(one, amendments):
+    base, = [other for other in amendments if other.number == one.rests]
+    return base
+
+
+def unit_valued(plan, amendments):
+    """Rule 2.13: the heading's unit, and what the amendments in force add to it."""
+    return plan.unit + sum(one.add for one in amendments if in_force(one, amendments))
+
+
+def amended(plan, amendments):
+    """The plan as it is valued: all that follows is of this one, and knows no other unit."""
+    return plan._replace(unit=unit_valued(plan, amendments))
 
 
 # ---- pay and benefit: RULES section 7

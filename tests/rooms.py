@@ -6,7 +6,8 @@ programs after its length and the length of its buffer, 4 bytes each, the little
 import random
 import struct
 
-from case_files import damaged, file, filled, good_files, heading, many, member, ranges, two_faults
+import amendments
+from case_files import amend, damaged, file, filled, good_files, heading, many, member, ranges, two_faults
 from case_oracle import Refused
 from oracle import short_table
 from value_files import drawn_files, examples, longest
@@ -57,9 +58,11 @@ def rooms(case):
 
 
 def small():
-    """A few files, for what the crate stores: accepted with one member, paid monthly, and with none, and refused."""
+    """A few files, for what the crate stores: accepted with one member, paid monthly, with none, and with amendments, and
+    refused."""
     case = file(heading(pay='12'), short_table(), [member(7)])
-    return [case, file(heading(), short_table(), []), b'', case[:9], case.replace(b'retire=65', b'retire=49')]
+    listed = file(heading(unit='9000') + [amend(1, 0, 800), amend(4, 1, 5), amend(9, 0, 50, 1)], short_table(), [member(7)])
+    return [case, file(heading(), short_table(), []), listed, b'', case[:9], case.replace(b'retire=65', b'retire=49')]
 
 
 def files(rng):
@@ -69,6 +72,7 @@ def files(rng):
     yield from (longest(), many(1000), many(1001), filled(65536), filled(65537), b'')
     yield from rng.sample([*damaged(good_files()[2])], 60)
     yield from (case for case, _, _ in rng.sample([*two_faults(1)], 60))
+    yield from (case for case, _, _ in rng.sample(amendments.some(rng), 40))
     yield from drawn_files(rng, 100)
 
 

@@ -15,11 +15,12 @@ from typing import NamedTuple
 
 import commands
 from accuracy_search import largest_salary
+from amendments import drawn_amended
 from annuity_factors import kinds_of_rates
 from case_oracle import MOST_MEMBERS
 from library import VALUING, Answers
 from member_figures import drawn_plan
-from oracle import AGES, FIRST, METHOD_NAMES, METHODS, MILLION, Factors, Member, Plan, nearest, table
+from oracle import AGES, FIRST, METHOD_NAMES, METHODS, MILLION, Factors, Member, Plan, amended, nearest, table
 from rooms import about, about_measured
 from value_files import case_file
 from value_oracle import lines
@@ -30,10 +31,11 @@ ORDERS = RISING, FALLING, MIXED = 'rising', 'falling', 'mixed'
 
 
 class File(NamedTuple):
-    """A plan, its rows and its members, all accepted."""
+    """A plan, its rows, its members and its amendments, all accepted."""
     plan: Plan
     rows: dict
     members: list
+    amendments: tuple
 
 
 # ---- the entry age and the age of each member, in the order of a file
@@ -74,13 +76,15 @@ def few(rng, r):
 # ---- files
 
 def file_of(rng, plan, rates, weights, ages):
-    """Salaries are near the largest, for each figure to be large; so each member is another person."""
-    rows, members = table(rates, weights), []
+    """Salaries are near the largest, for each figure to be large; so each member is another person. Half of the plans have
+    amendments."""
+    plan, amendments = drawn_amended(rng, plan)
+    valued, rows, members = amended(plan, amendments), table(rates, weights), []
     for id, (y, x) in enumerate(ages, 1):
         member = Member(id, id, y, x, 1)
-        largest = largest_salary(plan, rows, member)
+        largest = largest_salary(valued, rows, member)
         members.append(member._replace(salary=rng.randint(largest // 2, largest)))
-    return File(plan, rows, members)
+    return File(plan, rows, members, amendments)
 
 
 def jump(rng):
@@ -118,12 +122,13 @@ def files(rng):
 # ---- what the files must have among them, by each method
 
 KINDS = ['one entry age with every age', 'one entry age and one age', 'x = y', 'x = r', 'interest 0', 'interest 2000',
-         'pay 1', 'pay 12', 'weights that rise a hundredfold', 'nobody leaves', 'all leave', '1000 members']
+         'pay 1', 'pay 12', 'weights that rise a hundredfold', 'nobody leaves', 'all leave', '1000 members',
+         'no amendments', 'amendments that add something']
 COUNTS = [f'{count} members' for count in FEW]
 PAIRS = [(order, r, *pair) for order, r in product(ORDERS, RETIREMENTS) for pair in every_pair(r)]
 
 
-def kinds(plan, rows, members):
+def kinds(plan, rows, members, amendments):
     """Of a file: those of KINDS and COUNTS that it is of."""
     r, ages, entries = plan.retire, [m.age for m in members], [m.entry for m in members]
     staying = {Factors(plan, rows, nearest).P(k) for k in range(FIRST, r)}
@@ -142,9 +147,13 @@ def kinds(plan, rows, members):
         yield 'nobody leaves'
     if staying == {0}:
         yield 'all leave'
+    if not amendments:
+        yield 'no amendments'
+    if amended(plan, amendments).unit > plan.unit:
+        yield 'amendments that add something'
 
 
-def ordered_pairs(plan, _, members):
+def ordered_pairs(plan, _, members, *__):
     """Of a file of many members: its pairs of ages, each with the order of the ages and with r."""
     ages = [m.age for m in members]
     rising = sorted(ages)

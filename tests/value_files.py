@@ -3,9 +3,9 @@
     python3 tests/value_files.py --check [--files N] [--seed K]
 
 The program is run once for each file: those worked by hand (RULES section 14), those at a bound, damaged ones, those
-with two faults, those with a person on several lines, and N drawn ones. What it prints as supplemental is also held to
-its limit (rule 11.4), and a member's line must not hang on the other members (rule 11.5). tests/library_answers.py gives
-the same files to the library.
+with two faults, those with a person on several lines, those with amendments, and N drawn ones. What it prints as
+supplemental is also held to its limit (rule 11.4), a member's line must not hang on the other members (rule 11.5), and
+amendments must count by their sum alone (rule 2.13). tests/library_answers.py gives the same files to the library.
 """
 import argparse
 import random
@@ -16,23 +16,25 @@ from collections import Counter, defaultdict
 from itertools import zip_longest
 from pathlib import Path
 
+import amendments
 import case_oracle
 import commands
 import persons
 from accuracy_search import largest_salary
-from case_files import (ACCEPTING, FULL, HALF, OVER_HALF, cut, damaged, file, filled, final_heading, good_files, heading,
-                        many, member, ranges, spell, spells, stray_bytes, two_faults, worked_persons)
+from case_files import (ACCEPTING, FULL, HALF, OVER_HALF, amend, cut, damaged, file, filled, final_heading, good_files,
+                        heading, many, member, ranges, spell, spells, stray_bytes, two_faults, worked_amendments,
+                        worked_persons)
 from member_figures import (SHORT_CASE, at_ends, at_largest_benefit, dollars, drawn_member, drawn_number, drawn_plan,
                             drawn_rates, drawn_weights, extreme_cases, straying_cases)
-from oracle import (BD, FINAL, METHOD_NAMES, MOST_ASSETS, MOST_BENEFIT, MOST_NUMBER, MOST_SALARY, NO_PAYS, PAYS, YEARLY,
-                    Member, Plan, benefit, level_table, short_table, table)
+from oracle import (BD, FINAL, METHOD_NAMES, MOST_AMENDMENTS, MOST_ASSETS, MOST_BENEFIT, MOST_NUMBER, MOST_SALARY,
+                    NO_PAYS, PAYS, YEARLY, Member, Plan, amended, benefit, level_table, most_unit, short_table, table)
 from value_oracle import amount, exact_supplemental, lines, supplemental_limit, valued
 
 ROOT = Path(__file__).parent.parent
 PROGRAM = ROOT / 'target' / 'bin' / 'value'
 EXAMPLES = ROOT / 'examples'
-# Those with tables that are like real ones. In the short table all live to 65 and nobody longer, and two-spells has the
-# table of final-pay.
+# Those with tables that are like real ones. In the short table all live to 65 and nobody longer, and two-spells and amended
+# have the table of final-pay.
 REAL = 'final-pay.case', 'textbook.case'
 FORMULA_NAMES = {1: 'flat', 2: 'career', 3: 'final'}
 # No output is longer. A member line has an id of 9 digits, a B(r) of up to 1000000.00, and a V, N and L of less than
@@ -42,12 +44,12 @@ LONGEST = 64112
 DRAWN, SEED = 2000, 11
 
 
-def case_file(plan, rows, members):
-    """The case file of plain values."""
+def case_file(plan, rows, members, listed=()):
+    """The case file of plain values, `listed` being the amendments. The plan has the heading's unit."""
     named = plan._replace(formula=FORMULA_NAMES[plan.formula], method=METHOD_NAMES[plan.method],
                           assets=amount(plan.assets))
-    listed = [member(m.id, m.entry, m.age, amount(m.salary), m.person) for m in members]
-    return file(heading(**named._asdict()), rows, listed)
+    head = heading(**named._asdict()) + [amend(*one) for one in listed]
+    return file(head, rows, [member(m.id, m.entry, m.age, amount(m.salary), m.person) for m in members])
 
 
 def answer(case):
@@ -76,6 +78,7 @@ def worked():
     yield from worked_benefits(short)
     yield from worked_bounds(short, level)
     yield from worked_spells()
+    yield from worked_lists(short)
 
 
 def worked_methods(short, level):
@@ -130,6 +133,23 @@ def worked_spells():
         b'member=7,1000000.00,*,*,*\nmember=8,1000000.00,*,*,*\n')
 
 
+def worked_lists(short):
+    """Rules 2.11 to 2.13: the short case, where the heading's unit and the additions in force come to the 10000 of it; and
+    what is printed of a list that is refused."""
+    said = b'member=7,200.00,181.82,86.58,95.24\ntotal=1,181.82,86.58,95.24\nunfunded=75.24\nsupplemental=39.41\n'
+    for unit, listed in ((4000, [(1, 0, 5000, 0), (2, 1, 1000, 0)]), (0, [(999, 0, 10000, 0)]),
+                         (4000, [(1, 0, 5000, 1), (2, 1, 1000, 0), (3, 0, 6000, 0), (4, 2, 1, 0)]),
+                         (10000, [(1, 0, 100000, 1), (2, 1, 100000, 0), (3, 2, 100000, 0)]),
+                         (0, amendments.chain([500] * MOST_AMENDMENTS)),
+                         (5000, amendments.chain([500] * 10 + [100000] * 10, struck=[10]))):
+        case = file(heading(unit=unit) + [amend(*one) for one in listed], short, [member(7)])
+        yield f'unit {unit} and {listed}', case, said
+    for listed, said in (([(1, 0, 90001, 0)], b'refused=55,10\n'), ([(1, 1, 0, 0)], b'refused=54,10\n'),
+                         ([(2, 0, 0, 0), (1, 0, 0, 0)], b'refused=53,11\n'), ([(1, 0, 0, 2)], b'refused=11,10\n'),
+                         (amendments.chain([0] * 21), b'refused=53,30\n'), ([(1, 0, '', 0)], b'refused=10,10\n')):
+        yield f'the list {listed}', file(heading() + [amend(*one) for one in listed], short, [member(7)]), said
+
+
 def check_worked():
     """The oracle prints what is worked by hand, and what is stored beside the examples."""
     for name, case, said in worked():
@@ -159,7 +179,7 @@ def largest_figures():
     """One member each: the largest benefits, the ends of a member's ages and of a plan's terms, and every rounding
     pushing one way."""
     cases = [*at_largest_benefit(), *extreme_cases(), *at_ends(), *straying_cases()]
-    return [case_file(plan, rows, [only]) for plan, rows, only in cases]
+    return [case_file(case.plan, case.rows, [case.member], case.amendments) for case in cases]
 
 
 def longest():
@@ -204,7 +224,7 @@ def drawn_rows(rng):
     """Drawn ones; or those of an example, which are like real ones."""
     if rng.random() < 0.8:
         return table(drawn_rates(rng), drawn_weights(rng))
-    _, rows, _ = case_oracle.walk((EXAMPLES / rng.choice(REAL)).read_bytes(), True)
+    _, _, rows, _ = case_oracle.walk((EXAMPLES / rng.choice(REAL)).read_bytes(), True)
     return rows
 
 
@@ -214,8 +234,8 @@ def drawn_person(rng, earlier):
 
 
 def drawn_members(rng, plan, rows, count):
-    """Accepted ones, some of them further lines of a person: the salary is the largest where it would be over it, by what
-    is left for the person."""
+    """Accepted ones of a plan, as it is amended, some of them further lines of a person: the salary is the largest where it
+    would be over it, by what is left for the person."""
     left = defaultdict(lambda: MOST_BENEFIT)
     for id in sorted(rng.sample(range(1, MOST_NUMBER + 1), count)):
         drawn = drawn_member(rng, plan, rows)
@@ -230,26 +250,36 @@ def drawn_members(rng, plan, rows, count):
 
 
 def drawn_valued(rng, count):
-    """A plan, rows and so many members, all accepted."""
-    plan, rows = drawn_plan(rng), drawn_rows(rng)
-    return plan, rows, list(drawn_members(rng, plan, rows, count))
+    """A plan, rows, so many members and amendments, all accepted. Half of the plans have no amendments."""
+    plan, listed = amendments.drawn_amended(rng, drawn_plan(rng))
+    rows = drawn_rows(rng)
+    return plan, rows, list(drawn_members(rng, amended(plan, listed), rows, count)), listed
 
 
 def drawn_file(rng, count):
     """With assets about the liability in most, so that the unfunded has either sign. Some have a fault."""
-    plan, rows, members = drawn_valued(rng, count)
-    liability = valued(plan, rows, members).total('liability')
+    plan, rows, members, listed = drawn_valued(rng, count)
+    liability = valued(amended(plan, listed), rows, members).total('liability')
     assets = rng.choice([0, plan.assets, rng.randint(0, 2 * liability), max(0, liability + rng.randint(-9, 9))])
     plan = plan._replace(assets=assets)
-    fault = rng.choices([None, 'pay', 'member', 'persons', 'byte'], [75, 2, 5, 8, 10])[0]
+    fault = rng.choices([None, 'pay', 'list', 'member', 'persons', 'byte'], [75, 2, 5, 5, 8, 10])[0]
     if fault == 'pay':
         plan = plan._replace(pay=rng.choice(NO_PAYS))
+    if fault == 'list':
+        listed = faulty_list(rng, plan, listed)
     if fault == 'member':
-        members.append(faulty_member(rng, plan, rows))
+        members.append(faulty_member(rng, amended(plan, listed), rows))
     if fault == 'persons':
         members = with_few_persons(rng, members)
-    case = case_file(plan, rows, members)
+    case = case_file(plan, rows, members, listed)
     return next(stray_bytes(case, rng, 1)) if fault == 'byte' else case
+
+
+def faulty_list(rng, plan, listed):
+    """With a field that is wrong, or, where there was no list, additions that are 1 too much."""
+    if listed:
+        return amendments.spoiled(rng, listed, 1)[0]
+    return amendments.drawn_list(rng, most_unit(plan.formula) - plan.unit + 1, 3)
 
 
 def faulty_member(rng, plan, rows):
@@ -283,6 +313,7 @@ def files(rng, count):
     yield from damaged_files(rng)
     yield from (case for case, _, _ in two_faults(2))
     yield from (case for case, _, _ in (*worked_persons(), *persons.some(rng)))
+    yield from (case for case, _, _ in (*worked_amendments(level_table()), *amendments.some(rng)))
     yield from (case_file(*drawn_valued(rng, 1000)) for _ in range(5))
     yield from drawn_files(rng, count)
 
@@ -324,12 +355,12 @@ def check_independence(rng, pairs):
     of two files and none in the other."""
     several = 0
     for _ in range(pairs):
-        plan, rows, members = drawn_valued(rng, 5)
+        plan, rows, members, listed = drawn_valued(rng, 5)
         kept = rng.choice(members)
         several += [one.person for one in members].count(kept.person) > 1
-        others = [other for other in drawn_members(rng, plan, rows, 4)
+        others = [other for other in drawn_members(rng, amended(plan, listed), rows, 4)
                   if other.id != kept.id and other.person != kept.person]
-        both = [case_file(plan, rows, sorted(group)) for group in (members, [kept, *others])]
+        both = [case_file(plan, rows, sorted(group), listed) for group in (members, [kept, *others])]
         printed = [[line for line in answer(case).split(b'\n') if line.startswith(b'member=%d,' % kept.id)]
                    for case in both]
         if len(printed[0]) != 1 or printed[0] != printed[1]:
@@ -338,12 +369,28 @@ def check_independence(rng, pairs):
         sys.exit(f'value_files: in only {several} of {pairs} files the person of the kept line has another one')
 
 
+def check_amended(rng, pairs):
+    """Rule 2.13: amendments count by what those in force add to the unit, and in nothing else. So a file prints what the
+    one without a list does that has the sum in its heading; and with a list that adds nothing the same again."""
+    for _ in range(pairs):
+        listed = ()
+        while not listed:
+            plan, rows, members, listed = drawn_valued(rng, rng.choice([1, 3]))
+        in_heading = plan._replace(unit=plan.unit + amendments.added(listed))
+        said = answer(case_file(plan, rows, members, listed))
+        for more in ((), *amendments.IDLE):
+            case = case_file(in_heading, rows, members, more)
+            if answer(case) != said or said.startswith(b'refused='):
+                differ(case, f'the program writes {answer(case)} here', f'and {said} with unit {plan.unit} and {listed}')
+
+
 def check(count, seed):
     check_worked()
     rng, refused, signs = random.Random(seed), Counter(), Counter()
     for case in files(rng, count):
         hold(case, refused, signs)
     check_independence(rng, 50)
+    check_amended(rng, 50)
     if set(refused) != ACCEPTING:
         sys.exit(f'value_files: the files give the refusals {sorted(refused)}')
     if set(signs) != {(1, 1), (1, 0), (0, 0), (-1, 0), (-1, -1)}:

@@ -10,7 +10,7 @@ from functools import lru_cache
 from typing import NamedTuple
 
 from case_oracle import Refused, walk
-from oracle import Costs, Factors, Plan, S, certain, nearest
+from oracle import Costs, Factors, Plan, S, amended, certain, nearest
 
 ROOM = 65536
 
@@ -59,7 +59,8 @@ class Valuation(NamedTuple):
 
 
 def valued(plan, rows, members):
-    """The valuation of an accepted plan and its members, by the plan's method and at each member's own age."""
+    """The valuation of an accepted plan, as it is amended, and its members, by the plan's method and at each member's own
+    age."""
     factors = Factors(plan, rows, nearest)
     return Valuation(plan, members, [Costs(plan, rows, m, factors).figures(plan.method, m.age) for m in members])
 
@@ -69,7 +70,8 @@ def valued(plan, rows, members):
 @lru_cache(maxsize=1)
 def accepted_lines(case):
     """The lines of an accepted case file. The buffers tried with one file come one after another, so one is kept."""
-    return ended(valued(*walk(case, True)).lines())
+    plan, amendments, rows, members = walk(case, True)
+    return ended(valued(amended(plan, amendments), rows, members).lines())
 
 
 def fitting(lines, room, refusal):

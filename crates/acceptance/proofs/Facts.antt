@@ -14,15 +14,15 @@ use Rattle.plan.specs.declared.Plan.{Plan}
 use Rattle.plan.specs.declared.Member.{Member}
 use Rattle.rules.specs.Rules.{unless, firstOf, between}
 use Rattle.rules.specs.Heading.{headRules}
-use Rattle.rules.specs.Table.{rowRules, rowOf, weightBefore, rowsRefusal}
+use Rattle.row_rules.specs.Table.{rowRules, rowOf, weightBefore, rowsRefusal}
 use Rattle.acceptance.specs.declared.Benefit.the-variants.{Is, Refused}
-use Rattle.acceptance.specs.Acceptance.{planRefusal, fieldRules, benefitRules, memberRefusal, lineRefusal, loneRefusal, benefitOr}
+use Rattle.acceptance.specs.Acceptance.{planRefusal, fieldRules, benefitRules, memberRefusal, lineRefusal, benefitOr}
 use Rattle.plan.specs.Benefit.{B}
 use Rattle.plan.specs.Ranges.{HeadRanges, PlanRanges, InRange, MemberRanges}
 use Rattle.plan.proofs.RiseLaws.{never-falls, climbing}
 use Rattle.acceptance.specs.Rising.{Accepted-Never-Falls}
 use Rattle.rules.proofs.RuleLaws.{first-refuses, first-passes, first-alone, all-kept, kept-all, refusal-of-both, both-refusals, kept, both-true, either-true, between-true}
-use Rattle.rules.proofs.TableLaws.{weight-passed}
+use Rattle.row_rules.proofs.TableLaws.{weight-passed}
 
 -- ---- the heading
 unit-most : (t : Bool) (u : ℕ) → u ≤ cond t 100000 500 → u ≤ 100000
@@ -195,13 +195,6 @@ module _ (p : Plan) (rows : List (List ℕ)) (before sum : ℕ) (m : Member) whe
       let within = leb (sum + B p rows m (p .retire)) 100000000 in
       let rules = memberRefusal p rows before m ∷ unless within 29 ∷ [] in
       ((λ e. let k = all-kept rules e in (k .0, leb-true _ _ (kept within 28 (k .1 .0)))), (λ k. kept-all rules (k .0, (simp (le-leb _ _ (k .1)), tt))))
-
--- a lone member, after its plan
-pub lone-facts : (p : Plan) (rows : List (List ℕ)) (m : Member) → loneRefusal p rows m ≡ 0 → MemberRanges p rows m
-unfolding loneRefusal
-lone-facts p rows m e =
-    let both = all-kept (planRefusal p rows ∷ lineRefusal p rows 0 _ m ∷ []) e in
-    member-facts p rows 0 m (both .0) (line-kept p rows 0 _ m .0 (both .1 .0) .0)
 
 -- rule 7.9 for an accepted plan
 pub accepted-never-falls : Accepted-Never-Falls

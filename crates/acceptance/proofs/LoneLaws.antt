@@ -5,16 +5,20 @@ use mathlib.Core.List.{List, [], _∷_, _++_}
 use Prim.Native.Nat.{ℕ, zero, suc}
 use native.Mathlib.Omega.{arith}
 use native.Mathlib.Nat.{zero-add}
+use lib.ListN.{length}
 use lib.Dec.{leb, ltb, eqb}
 use Rattle.plan.specs.declared.Plan.{Plan}
+use Rattle.plan.specs.declared.Amendment.{Amendment}
 use Rattle.plan.specs.declared.Member.{Member}
 use Rattle.plan.specs.Benefit.{B}
 use Rattle.rules.specs.Refusals.{highSum}
 use Rattle.rules.specs.Rules.{unless, firstOf, between}
-use Rattle.rules.specs.Heading.{headRules}
-use Rattle.rules.specs.Table.{rowRules, rowOf, weightBefore, rowsRefusal}
+use Rattle.rules.specs.Heading.{unitMost, headRules}
+use Rattle.row_rules.specs.Table.{rowRules, rowOf, weightBefore, rowsRefusal}
 use Rattle.rules.proofs.RuleLaws.{first-refuses}
-use Rattle.acceptance.specs.Acceptance.{planRefusal, fieldRules, benefitRules, memberRefusal, lineRefusal, loneRefusal}
+use Rattle.amendments.specs.Force.{listed, unitValued, asValued}
+use Rattle.amendments.specs.Judging.{mostAmendments, lastNumber, amendmentRules, amendmentRefusal, unitRefusal, eachRefusal, amendmentsRefusal}
+use Rattle.acceptance.specs.Acceptance.{amendedRefusal, fieldRules, benefitRules, memberRefusal, lineRefusal, loneRefusal}
 use Rattle.acceptance.specs.Lone.{First-Line-By-Its-Own, Lone-Never-29}
 use Rattle.acceptance.proofs.Facts.{own-capped, line-refused, line-summed}
 use Rattle.acceptance.proofs.SumLaws.{sum-absent}
@@ -81,10 +85,35 @@ rows-other rows (suc n) k e =
     let here : firstOf row ≡ highSum → ⊥ = others row (other rates 11 (λ e. omega arith), (other last 14 (λ e. omega arith), (other scale 15 (λ e. omega arith), tt))) in
     others (firstOf row ∷ rowsRefusal rows (suc k) n ∷ []) (here, (rows-other rows n (suc k), tt)) e
 
-plan-other : (p : Plan) (rows : List (List ℕ)) → planRefusal p rows ≡ highSum → ⊥
-unfolding planRefusal
-plan-other p rows =
-    others (firstOf (headRules p) ∷ rowsRefusal rows 15 106 ∷ []) (others (headRules p) (head-others p), (rows-other rows 106 15, tt))
+amendment-other : (before : List Amendment) (a : Amendment) → amendmentRefusal before a ≡ highSum → ⊥
+unfolding amendmentRules
+amendment-other before a =
+    let fields = between 1 999 (a .number) && (leb (a .rests) 999 && (leb (a .add) 100000 && leb (a .struck) 1)) in
+    let order = ltb (lastNumber before) (a .number) && ltb (length before) mostAmendments in
+    let rest = eqb (a .rests) 0 || listed (a .rests) before in
+    others (amendmentRules before a) (other fields 11 (λ e. omega arith), (other order 53 (λ e. omega arith), (other rest 54 (λ e. omega arith), tt)))
+
+each-other : (before l : List Amendment) → eachRefusal before l ≡ highSum → ⊥
+unfolding eachRefusal
+each-other before [] e = omega arith
+each-other before (a ∷ l) e =
+    let later = eachRefusal (before ++ a ∷ []) l in
+    others (amendmentRefusal before a ∷ later ∷ []) (amendment-other before a, (each-other (before ++ a ∷ []) l, tt)) e
+
+unit-other : (p : Plan) (l : List Amendment) → unitRefusal p l ≡ highSum → ⊥
+unfolding unitRefusal
+unit-other p [] e = omega arith
+unit-other p (a ∷ l) e = other (leb (unitValued p (a ∷ l)) (unitMost (p .formula))) 55 (λ e. omega arith) e
+
+list-other : (p : Plan) (l : List Amendment) → amendmentsRefusal p l ≡ highSum → ⊥
+unfolding amendmentsRefusal
+list-other p l = others (eachRefusal [] l ∷ unitRefusal p l ∷ []) (each-other [] l, (unit-other p l, tt))
+
+plan-other : (p : Plan) (l : List Amendment) (rows : List (List ℕ)) → amendedRefusal p l rows ≡ highSum → ⊥
+unfolding amendedRefusal
+plan-other p l rows =
+    others (firstOf (headRules p) ∷ amendmentsRefusal p l ∷ rowsRefusal rows 15 106 ∷ [])
+    (others (headRules p) (head-others p), (list-other p l, (rows-other rows 106 15, tt)))
 
 member-other : (p : Plan) (rows : List (List ℕ)) (before : ℕ) (m : Member) → memberRefusal p rows before m ≡ highSum → ⊥
 unfolding memberRefusal fieldRules benefitRules
@@ -108,5 +137,7 @@ member-other p rows before m =
 
 pub lone-never-29 : Lone-Never-29
 unfolding loneRefusal
-lone-never-29 p rows m =
-    others (planRefusal p rows ∷ lineRefusal p rows 0 0 m ∷ []) (plan-other p rows, ((λ e. member-other p rows 0 m (sym (own-alone p rows 0 m) ∙ e)), tt))
+lone-never-29 p l rows m =
+    let valued = asValued p l in
+    others (amendedRefusal p l rows ∷ lineRefusal valued rows 0 0 m ∷ [])
+    (plan-other p l rows, ((λ e. member-other valued rows 0 m (sym (own-alone valued rows 0 m) ∙ e)), tt))

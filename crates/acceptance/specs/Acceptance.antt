@@ -1,4 +1,5 @@
--- Accepting a plan, its rows and a member handed in as plain values: rule 5.3, the range rules in the order of the lines. Cents for money.
+-- Accepting a plan, its amendments, its rows and a member handed in as plain values: rules 5.3 and 5.6, the range rules in the order of the lines. Cents
+-- for money.
 use mathlib.Core.Path.{_≡_, refl}
 use mathlib.Core.Bool.{true, cond, _&&_}
 use mathlib.Core.List.{List, [], _∷_, _++_}
@@ -9,20 +10,28 @@ use Rattle.fractions.specs.Ratio.{_over_, whole}
 use Rattle.rates.specs.ByHand.{Figure, _is_, all-are}
 use Rattle.rates.specs.Table.{firstAge, ages}
 use Rattle.plan.specs.declared.Plan.{Plan}
+use Rattle.plan.specs.declared.Amendment.{Amendment}
 use Rattle.plan.specs.declared.Member.{Member}
 use Rattle.plan.specs.Benefit.{formulaOf, exactBenefit, B}
 use Rattle.rules.specs.Refusals.{wrongId, wrongPerson, wrongEntry, wrongAge, wrongSalary, highBenefit, highSum}
 use Rattle.rules.specs.Rules.{unless, firstOf, between}
 use Rattle.rules.specs.Heading.{headRules}
-use Rattle.rules.specs.Table.{rowsRefusal}
+use Rattle.row_rules.specs.Table.{rowRules, rowsRefusal}
+use Rattle.amendments.specs.Force.{listed, stands, inForceAfter, additions, asValued, amend}
+use Rattle.amendments.specs.Judging.{amendmentRules, unitRefusal, eachRefusal, amendmentsRefusal}
 use Rattle.acceptance.specs.declared.Benefit.{Benefit}
 use Rattle.acceptance.specs.declared.Benefit.the-variants.{Is, Refused as NoBenefit}
 use Rattle.acceptance.specs.declared.Acceptance.{Acceptance}
 use Rattle.acceptance.specs.declared.Acceptance.the-variants.{Accepted, Refused}
 
--- rule 5.3, a plan with its rows, one for each age: the heading goes before the table
+-- rule 5.3, a plan with its rows, one for each age: the heading goes before the table. So it is for a plan as it is valued, which has no list any more
 unfoldable pub planRefusal : Plan → List (List ℕ) → ℕ
 planRefusal p rows = firstOf (firstOf (headRules p) ∷ rowsRefusal rows firstAge ages ∷ [])
+
+-- rule 5.6, a plan with its amendments and its rows: the list is judged after the heading and before the table
+unfoldable pub amendedRefusal : Plan → List Amendment → List (List ℕ) → ℕ
+amendedRefusal p l rows =
+    firstOf (firstOf (headRules p) ∷ amendmentsRefusal p l ∷ rowsRefusal rows firstAge ages ∷ [])
 
 -- ---- a member line, by itself
 -- rules 4.2, 4.7 and 4.3 to 4.5: the id, the person, the entry age, the age and the salary.
@@ -83,6 +92,19 @@ pub sums-are : all-are sum-figures ≡ true
 unfolding sum-figures nearest _over_ whole formulaOf exactBenefit B fieldRules benefitRules memberRefusal personSum lineRefusal
 sums-are = refl
 
+-- a plan with its list and no rows: the heading, the list, and the rows, of which the first has no weight
+unfoldable pub plan-figures : List Figure
+plan-figures =
+    (amendedRefusal flat [] [] is 15)
+    ∷ (amendedRefusal flat (amend 5 5 0 0 ∷ []) [] is 54)
+    ∷ (amendedRefusal flat (amend 5 0 90000 0 ∷ []) [] is 15)
+    ∷ (amendedRefusal flat (amend 5 0 90001 0 ∷ []) [] is 55)
+    ∷ []
+
+pub plans-are : all-are plan-figures ≡ true
+unfolding plan-figures headRules rowsRefusal rowRules listed stands inForceAfter additions amendmentRules unitRefusal eachRefusal amendmentsRefusal amendedRefusal
+plans-are = refl
+
 -- ---- the answers
 -- a member's own refusal, or its B(r)
 abbrev pub benefitOr : (number benefit : ℕ) → Benefit
@@ -92,6 +114,7 @@ benefitOr number benefit = cond (eqb number 0) (Is benefit) (NoBenefit number)
 unfoldable pub acceptanceOf : ℕ → Acceptance
 acceptanceOf number = cond (eqb number 0) Accepted (Refused number 0)
 
--- rules 5.3 and 5.5, a lone member: the plan's refusal comes first; no id stands before its own, and no benefit is added to its own
-unfoldable pub loneRefusal : Plan → List (List ℕ) → Member → ℕ
-loneRefusal p rows m = firstOf (planRefusal p rows ∷ lineRefusal p rows 0 0 m ∷ [])
+-- rules 5.3 and 5.5, a lone member: the plan's refusal comes first, and then the member is judged by the plan as it is valued; no id stands before its
+-- own, and no benefit is added to its own
+unfoldable pub loneRefusal : Plan → List Amendment → List (List ℕ) → Member → ℕ
+loneRefusal p l rows m = firstOf (amendedRefusal p l rows ∷ lineRefusal (asValued p l) rows 0 0 m ∷ [])

@@ -3,6 +3,7 @@ use mathlib.Core.Path.{_≡_}
 use mathlib.Core.List.{List, [], _∷_}
 use Prim.Native.Nat.{ℕ}
 use Rattle.plan.specs.declared.Plan.{Plan}
+use Rattle.plan.specs.declared.Amendment.{Amendment}
 use Rattle.plan.specs.declared.Member.{Member}
 use Rattle.rules.specs.Refusals.{highSum}
 use Rattle.acceptance.specs.Acceptance.{memberRefusal, personSum, lineRefusal, loneRefusal}
@@ -20,4 +21,5 @@ First-Line-By-Its-Own =
 
 -- and whatever the numbers of a lone member are, its answer isn't 29
 abbrev pub Lone-Never-29 : Type 0
-Lone-Never-29 = (p : Plan) (rows : List (List ℕ)) (m : Member) → loneRefusal p rows m ≡ highSum → ⊥
+Lone-Never-29 =
+    (p : Plan) (l : List Amendment) (rows : List (List ℕ)) (m : Member) → loneRefusal p l rows m ≡ highSum → ⊥

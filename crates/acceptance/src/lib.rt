@@ -1,11 +1,15 @@
-// Accepting a plan, its rows and a member handed in as plain values, rules 5.3 to 5.5, in the order of the lines: the rules
-// of the heading and of the table, which crate `rules` has, then those of a member, RULES section 4 and rule 7.8. A refusal is
-// its number, and 0 is none. specs/ has what every contract is an equation with, the order of the rules, in Acceptance; in
-// Rising the law of rule 7.9 for a plan that is accepted; and in Lone that rule 7.10 refuses no lone member.
+// Accepting a plan, its amendments, its rows and a member handed in as plain values, rules 5.3 to 5.6, in the order of the
+// lines: the rules of the heading and of the table, which crate `rules` has, between them those of the amendments, which crate
+// `amendments` has, then those of a member, RULES section 4 and rule 7.8. A refusal is its number, and 0 is none. specs/ has what
+// every contract is an equation with, the order of the rules, in Acceptance; in Valued that the plan as it is valued is accepted too;
+// in Rising the law of rule 7.9 for a plan that is accepted; and in Lone that rule 7.10 refuses no lone member.
+use amendments::amendments_refusal;
+use amendments::as_valued;
 use plan::Member;
 use plan::Plan;
 use plan::benefit::accrued_benefit;
 use rates::Rows;
+use row_rules::rows_refusal;
 use rules::between;
 use rules::both;
 use rules::or_else;
@@ -15,7 +19,6 @@ use rules::refusals::WRONG_ENTRY;
 use rules::refusals::WRONG_ID;
 use rules::refusals::WRONG_PERSON;
 use rules::refusals::WRONG_SALARY;
-use rules::rows::rows_refusal;
 use rules::terms::head_refusal;
 use rules::unless;
 use rules::unless_between;
@@ -26,13 +29,15 @@ ghost use Rattle.rules.specs.Refusals.{wrongId, wrongEntry};
 ghost use Rattle.rules.specs.Rules.{firstOf};
 ghost use Rattle.rules.specs.Rules.{unless as Rules·unless, between as Rules·between};
 ghost use Rattle.plan.specs.Benefit.{B};
-ghost use Rattle.acceptance.specs.Acceptance.{planRefusal, fieldRules, memberRefusal, loneRefusal, benefitOr, acceptanceOf};
+ghost use Rattle.amendments.specs.Force.{amendmentsFrom};
+ghost use Rattle.acceptance.specs.Acceptance.{planRefusal, amendedRefusal, fieldRules, memberRefusal, loneRefusal, benefitOr, acceptanceOf};
 
-// The heading and the rows.
-pub fn plan_refusal(p: Plan, rows: Rows) -> u64
-    ensures { λ r. ⌜ r ≡ planRefusal p rows ⌝ }
+// The heading, the amendments and the rows.
+fn plan_refusal(p: Plan, amendments: &[[u64; 4]], rows: Rows) -> u64
+    ensures { λ r. ⌜ r ≡ amendedRefusal p (amendmentsFrom (now (amendments .entry))) rows ⌝ }
 {
-    or_else(head_refusal(p), rows_refusal(rows))
+    let later = or_else(amendments_refusal(p, amendments), rows_refusal(rows));
+    or_else(head_refusal(p), later)
 }
 
 // A member's B(r), or its own refusal's number.
@@ -98,30 +103,31 @@ fn answer_of(number: u64) -> Acceptance
     Acceptance::Refused(number, 0)
 }
 
-// Accepts a plan with its rows.
-pub fn accept_plan(p: Plan, rows: Rows) -> Acceptance
-    ensures { λ r. ⌜ r ≡ acceptanceOf (planRefusal p rows) ⌝ }
+// Accepts a plan with its amendments and its rows.
+pub fn accept_plan(p: Plan, amendments: &[[u64; 4]], rows: Rows) -> Acceptance
+    ensures { λ r. ⌜ r ≡ acceptanceOf (amendedRefusal p (amendmentsFrom (now (amendments .entry))) rows) ⌝ }
 {
-    answer_of(plan_refusal(p, rows))
+    answer_of(plan_refusal(p, amendments, rows))
 }
 
 // Rules 5.3 and 5.5: a lone member, after its plan. It is the only line of its person, so nothing is summed.
-pub fn lone_refusal(p: Plan, rows: Rows, m: Member) -> u64
-    ensures { λ r. ⌜ r ≡ loneRefusal p rows m ⌝ }
+pub fn lone_refusal(p: Plan, amendments: &[[u64; 4]], rows: Rows, m: Member) -> u64
+    ensures { λ r. ⌜ r ≡ loneRefusal p (amendmentsFrom (now (amendments .entry))) rows m ⌝ }
 {
-    let refusal = plan_refusal(p, rows);
+    let refusal = plan_refusal(p, amendments, rows);
     if refusal != 0 {
         return refusal;
     }
-    match member_benefit(p, &rows, 0, m) {
+    let valued = as_valued(p, amendments);
+    match member_benefit(valued, &rows, 0, m) {
         Benefit::Is(_) => 0,
         Benefit::Refused(number) => number,
     }
 }
 
 // Accepts a lone member of a plan.
-pub fn accept_member(p: Plan, rows: Rows, m: Member) -> Acceptance
-    ensures { λ r. ⌜ r ≡ acceptanceOf (loneRefusal p rows m) ⌝ }
+pub fn accept_member(p: Plan, amendments: &[[u64; 4]], rows: Rows, m: Member) -> Acceptance
+    ensures { λ r. ⌜ r ≡ acceptanceOf (loneRefusal p (amendmentsFrom (now (amendments .entry))) rows m) ⌝ }
 {
-    answer_of(lone_refusal(p, rows, m))
+    answer_of(lone_refusal(p, amendments, rows, m))
 }

@@ -2,9 +2,9 @@
 // death, withdrawal, disability and weight of each age in turn. An export answers false, and fills nothing, where the
 // table or another argument is not what the annuity functions require; so it requires nothing itself. The program
 // test_annuity_factors tests its tables by `is_table` too.
-use annuity::Factors;
 use rates::AGES;
 use rates::Rows;
+use year_steps::Factors;
 ghost use mathlib.Core.Bool.{true};
 ghost use mathlib.Core.Path.{_≡_};
 ghost use Prim.Native.Nat.{_+_, _≤_};
@@ -12,7 +12,7 @@ ghost use lib.ListN.{length};
 ghost use Rattle.rates.specs.Table.{Sound, Table};
 ghost use Rattle.factors.specs.Basis.{basis};
 ghost use Rattle.factors.specs.Factors.{A as Factors·A, Z};
-ghost use Rattle.annuity.specs.Filled.{Filled};
+ghost use Rattle.year_steps.specs.Filled.{Filled};
 ghost use Rattle.bench_annuity.specs.Rows.{rowAt, rowsOf};
 
 // A(k) for each age.

@@ -18,10 +18,10 @@ reading (refusal number line) = ReadingRefused number line
 unfoldable pub readingOf : List ℕ → Reading
 readingOf s = reading (walkOf false s)
 
--- rule 5.2, accepting: the plan and the count of members, beside the table and the members themselves
+-- rule 5.2, accepting: the plan with the heading's unit and the counts of amendments and members, beside the arrays that hold them
 unfoldable pub acceptingOf : List ℕ → Outcome Case
 acceptingOf s = walkOf true s
 
 abbrev pub accepting : Outcome Case → Accepting
-accepting (values c) = Accepted (c .plan) (length (c .members))
+accepting (values c) = Accepted (c .plan) (length (c .amends)) (length (c .members))
 accepting (refusal number line) = AcceptingRefused number line

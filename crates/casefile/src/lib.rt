@@ -1,11 +1,15 @@
 // The case file of a valuation, RULES sections 1 to 5: reading is for its form (rule 5.1), accepting for its ranges too
 // (rule 5.2). The crate walk says what a case file is; here the walk is done, one part after the other: those of the crates
-// heading, rows and members. The entries are read_case and accept_case: two words, two functions, two answers. Neither has a
+// heading, amend_lines, rows and members. The entries are read_case and accept_case: two words, two functions, two answers. Neither has a
 // `requires`.
+use amend_lines::amend_lines;
+use amendments::as_valued;
 use fields::text::from;
 use heading::head_lines;
 use members::Count;
 use members::member_lines;
+use plan::Amendments;
+use plan::MOST_AMENDMENTS;
 use plan::MOST_MEMBERS;
 use plan::Members;
 use plan::Plan;
@@ -18,25 +22,39 @@ use rules::refusals::TOO_LARGE;
 use rules::terms::plan_from;
 use stretches::Stretch;
 ghost use mathlib.Core.Path.{_≡_};
-ghost use Rattle.casefile.specs.Answers.{readingOf, acceptingOf, accepting};
-ghost use Rattle.casefile.specs.Stored.{rowsAfter, membersAfter};
+ghost use mathlib.Core.Bool.{true};
+ghost use mathlib.Core.List.{[]};
 ghost use Prim.Native.Nat.{_≤_};
-ghost use Rattle.walk.specs.Step.{table};
+ghost use lib.ListN.{take};
+ghost use Rattle.rules.specs.Heading.{planFrom};
+ghost use Rattle.amendments.specs.Force.{amendmentsFrom, asValued};
+ghost use Rattle.walk.specs.Step.{headed, amending};
 ghost use Rattle.walk.specs.Walk.{walkFrom, walkOf};
-ghost use Rattle.stretches.specs.Heads.{headed};
+ghost use Rattle.stretches.specs.Heads.{amended};
 ghost use Rattle.heading.specs.Stretch.{HeadKept};
-ghost use Rattle.casefile.specs.Stretch.{WalkIs};
+ghost use Rattle.amend_lines.specs.Array.{listArray};
+ghost use Rattle.casefile.specs.Answers.{readingOf, acceptingOf, accepting};
+ghost use Rattle.casefile.specs.Stored.{amendmentsAfter, rowsAfter, membersAfter};
+ghost use Rattle.casefile.specs.Stretch.{ListKept, TableIs, WalkIs};
 
-// What the walk gives: the plan and the count of members, or the first refusal's number and line.
+// What the walk gives: the plan with the heading's unit, and the counts of amendments and members; or the first refusal's number
+// and line.
 enum Walked {
-    Whole(Plan, u64),
+    Whole(Plan, u64, u64),
     Refused(u64, u64),
 }
 
-// One walk over the lines, for their form alone or for their ranges too. Both arrays are left open after a refusal, and
+// One walk over the lines, for their form alone or for their ranges too. The arrays are left open after a refusal, and
 // the rows where the ranges are not settled.
-fn walk_lines(case: &[u8], ranges: bool, rows: &mut Rows, members: &mut Members) -> Walked
-    ensures { λ r. ⌜ WalkIs ranges (walkOf ranges (now (case .entry))) r (now (rows .exit)) (now (members .exit)) ⌝ }
+fn walk_lines(
+    case: &[u8],
+    ranges: bool,
+    list: &mut [[u64; 4]],
+    rows: &mut Rows,
+    members: &mut Members,
+) -> Walked
+    requires { ⌜ now list ≡ listArray [] ⌝ }
+    ensures { λ r. ⌜ WalkIs ranges (walkOf ranges (now (case .entry))) r (now (list .exit)) (now (rows .exit)) (now (members .exit)) ⌝ }
 {
     if 65_536 < case.len() {
         return Walked::Refused(TOO_LARGE, 0);
@@ -44,34 +62,77 @@ fn walk_lines(case: &[u8], ranges: bool, rows: &mut Rows, members: &mut Members)
     let mut terms = [0u64; TERMS];
     match head_lines(case, ranges, &mut terms) {
         Stretch::Done(line, at) => {
-            walk_table(from(case, at), line, ranges, &terms, rows, members)
+            walk_list(from(case, at), line, ranges, &terms, list, rows, members)
         }
         Stretch::Refused(number, line) => Walked::Refused(number, line),
     }
 }
 
-// The walk from the table on, after a heading. It leaves the arrays open where walk_lines does.
-fn walk_table(
+// The walk from the amendments on, after the terms. It leaves the arrays open where walk_lines does.
+fn walk_list(
     s: &[u8],
     line: u64,
     ranges: bool,
     terms: &Terms,
+    list: &mut [[u64; 4]],
     rows: &mut Rows,
     members: &mut Members,
 ) -> Walked
-    requires { ⌜ HeadKept ranges (now terms) × (line ≤ 65536) ⌝ }
-    ensures { λ r. ⌜ WalkIs ranges (walkFrom ranges line (table (headed (now (terms .entry)))) (now (s .entry))) r (now (rows .exit)) (now (members .exit)) ⌝ }
+    requires { ⌜ HeadKept ranges (now terms) × (line ≤ 1000) × (now list ≡ listArray []) ⌝ }
+    ensures { λ r. ⌜ WalkIs ranges (walkFrom ranges line (amending (headed (now (terms .entry)))) (now (s .entry))) r (now (list .exit)) (now (rows .exit)) (now (members .exit)) ⌝ }
 {
-    match row_lines(s, line, ranges, rows) {
+    let p = plan_from(terms);
+    match amend_lines(s, line, ranges, p, list) {
         Stretch::Done(next, at) => {
-            let p = plan_from(terms);
-            match member_lines(from(s, at), next, ranges, p, rows, members) {
-                Count::Counted(n) => Walked::Whole(p, n),
+            let listed = next - line;
+            match walk_table(
+                from(s, at),
+                next,
+                ranges,
+                terms,
+                list,
+                listed as usize,
+                rows,
+                members,
+            ) {
+                Count::Counted(n) => Walked::Whole(p, listed, n),
                 Count::Refused(number, place) => Walked::Refused(number, place),
             }
         }
         Stretch::Refused(number, place) => Walked::Refused(number, place),
     }
+}
+
+// The walk from the table on, after the n amendments of a list. It leaves the rows and the members open where walk_lines does.
+fn walk_table(
+    s: &[u8],
+    line: u64,
+    ranges: bool,
+    terms: &Terms,
+    list: &[[u64; 4]],
+    n: usize,
+    rows: &mut Rows,
+    members: &mut Members,
+) -> Count
+    requires { ⌜ HeadKept ranges (now terms) × (line ≤ 65536) × ListKept ranges (now terms) (now list) n ⌝ }
+    ensures { λ r. ⌜ TableIs ranges (amended (now (terms .entry)) (amendmentsFrom (take n (now (list .entry))))) line (now (s .entry)) r (now (rows .exit)) (now (members .exit)) ⌝ }
+{
+    match row_lines(s, line, ranges, rows) {
+        Stretch::Done(next, at) => {
+            let p = judged_by(ranges, terms, list, n);
+            member_lines(from(s, at), next, ranges, p, rows, members)
+        }
+        Stretch::Refused(number, place) => Count::Refused(number, place),
+    }
+}
+
+// The plan as it is valued, by which the members are judged where the ranges are settled; else the plan is of no account.
+fn judged_by(ranges: bool, terms: &Terms, list: &[[u64; 4]], n: usize) -> Plan
+    requires { ⌜ ListKept ranges (now terms) (now list) n ⌝ }
+    ensures { λ p. ⌜ (ranges ≡ true → p ≡ asValued (planFrom (now (terms .entry))) (amendmentsFrom (take n (now (list .entry))))) ⌝ }
+{
+    let p = plan_from(terms);
+    if ranges { as_valued(p, &list[..n]) } else { p }
 }
 
 // The answer of reading: the form is right, which says nothing of ranges; or a refusal's number and line.
@@ -84,35 +145,45 @@ pub enum Reading {
 pub fn read_case(case: &[u8]) -> Reading
     ensures { λ r. ⌜ r ≡ readingOf (now (case .entry)) ⌝ }
 {
+    let mut list = [[0u64; 4]; MOST_AMENDMENTS];
     let mut rows = [[0u32; 4]; AGES];
     let mut members = [[0u64; 5]; MOST_MEMBERS];
-    match walk_lines(case, false, &mut rows, &mut members) {
-        Walked::Whole(_, _) => Reading::Read,
+    match walk_lines(case, false, &mut list, &mut rows, &mut members) {
+        Walked::Whole(_, _, _) => Reading::Read,
         Walked::Refused(number, line) => Reading::Refused(number, line),
     }
 }
 
-// The answer of accepting: the plan and the count of members; or a refusal's number and line.
+// The answer of accepting: the plan, with the heading's unit, and the counts of amendments and members; or a refusal's number and
+// line.
 pub enum Accepting {
-    Accepted(Plan, u64),
+    Accepted(Plan, u64, u64),
     Refused(u64, u64),
 }
 
-// Rule 5.2: accepts a case file, its form and its ranges. An accepted case is copied out, its table to `rows` and its
-// members to `members`: the id, person, entry, age and salary of member j at place j, and zeros past the last. A refusal leaves
-// both arrays as they were.
-pub fn accept_case(case: &[u8], rows: &mut Rows, members: &mut Members) -> Accepting
+// Rule 5.2: accepts a case file, its form and its ranges. An accepted case is copied out: its amendments to `amendments`, its table
+// to `rows` and its members to `members`, the numbers of one at its place, and zeros past the last. A refusal leaves
+// the arrays as they were. What is valued is `amendments::as_valued` of the plan and the amendments.
+pub fn accept_case(
+    case: &[u8],
+    amendments: &mut Amendments,
+    rows: &mut Rows,
+    members: &mut Members,
+) -> Accepting
     ensures { λ r. ⌜ r ≡ accepting (acceptingOf (now (case .entry))) ⌝ }
+    ensures { λ _. ⌜ now (amendments .exit) ≡ amendmentsAfter (acceptingOf (now (case .entry))) (now (amendments .entry)) ⌝ }
     ensures { λ _. ⌜ now (rows .exit) ≡ rowsAfter (acceptingOf (now (case .entry))) (now (rows .entry)) ⌝ }
     ensures { λ _. ⌜ now (members .exit) ≡ membersAfter (acceptingOf (now (case .entry))) (now (members .entry)) ⌝ }
 {
+    let mut list = [[0u64; 4]; MOST_AMENDMENTS];
     let mut table = [[0u32; 4]; AGES];
     let mut array = [[0u64; 5]; MOST_MEMBERS];
-    match walk_lines(case, true, &mut table, &mut array) {
-        Walked::Whole(p, n) => {
+    match walk_lines(case, true, &mut list, &mut table, &mut array) {
+        Walked::Whole(p, listed, n) => {
+            *amendments = list;
             *rows = table;
             *members = array;
-            Accepting::Accepted(p, n)
+            Accepting::Accepted(p, listed, n)
         }
         Walked::Refused(number, line) => Accepting::Refused(number, line),
     }

@@ -8,7 +8,7 @@ use lib.Dec.{eqb}
 use lib.ListN.{length, getD, set, replicate, length-set, getD-replicate}
 use lib.Seq.{getD-set-same, getD-set-other}
 use borrow.Author.Tests.{eqb-true, eqb-false}
-use Rattle.annuity.specs.Filled.{Filled}
+use Rattle.year_steps.specs.Filled.{Filled}
 use Rattle.columns.specs.Columns.{column, Marked, FilledColumns, ColumnsKept}
 
 -- none is marked at first

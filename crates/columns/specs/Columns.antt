@@ -5,7 +5,7 @@ use mathlib.Core.List.{List, []}
 use Prim.Native.Nat.{ℕ, _-_, _≤_}
 use lib.ListN.{length, getD}
 use Rattle.rates.specs.Table.{firstAge}
-use Rattle.annuity.specs.Filled.{Filled}
+use Rattle.year_steps.specs.Filled.{Filled}
 
 -- rules 2.3, 4.3 and 4.4: a member's end ages, its own age and r, lie between 15 and 75, so there are 61
 abbrev pub lastEnd : ℕ

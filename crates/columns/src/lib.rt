@@ -2,18 +2,18 @@
 // with a place for every age, and it is filled when it is first needed, by the one fill of the crate annuity.
 // specs/Columns.antt says what the columns hold that are filled, and that they stay so; no other is read. Each `requires` is
 // what an accepted plan and member show.
-use annuity::Amount;
-use annuity::Factors;
-use annuity::fill;
 use rates::FIRST_AGE;
 use rates::Rows;
+use year_steps::Amount;
+use year_steps::Factors;
+use year_steps::fill;
 ghost use mathlib.Core.Path.{_≡_};
 ghost use Prim.Native.Nat.{_-_, _≤_};
 ghost use lib.ListN.{getD};
 ghost use Rattle.rates.specs.Table.{Table, firstAge};
 ghost use Rattle.factors.specs.Basis.{basis};
 ghost use Rattle.factors.specs.Factors.{T, Z};
-ghost use Rattle.annuity.specs.Filled.{factor};
+ghost use Rattle.year_steps.specs.Filled.{factor};
 ghost use Rattle.columns.specs.Columns.{lastEnd, column, Marked, FilledColumns, ColumnsKept};
 
 // Rules 2.3, 4.3 and 4.4: how many end ages there are, 15 to 75.

@@ -12,14 +12,17 @@ use Rattle.rates.specs.Table.{staying}
 use Rattle.factors.specs.Factors.{S, step, A, pension, G, T, Z}
 use Rattle.factors.specs.Figures.{short, shortWith, factors}
 use Rattle.plan.specs.declared.Plan.{Plan}
+use Rattle.plan.specs.declared.Amendment.{Amendment}
 use Rattle.plan.specs.declared.Member.{Member}
 use Rattle.plan.specs.declared.Formula.the-variants.{Final}
 use Rattle.plan.specs.declared.Method.the-variants.{AB, BD, BP, CD, CP}
 use Rattle.plan.specs.Weights.{summed}
 use Rattle.plan.specs.Benefit.{formulaOf, pay, pays, exactBenefit, B}
 use Rattle.rules.specs.Heading.{headRules}
-use Rattle.rules.specs.Table.{rowsRefusal, rowRules}
-use Rattle.acceptance.specs.Acceptance.{loneRefusal, planRefusal, lineRefusal, memberRefusal, fieldRules, benefitRules}
+use Rattle.row_rules.specs.Table.{rowsRefusal, rowRules}
+use Rattle.amendments.specs.Force.{listed, stands, inForceAfter, additions, unitValued, asValued, amend}
+use Rattle.amendments.specs.Judging.{amendmentRules, unitRefusal, eachRefusal, amendmentsRefusal}
+use Rattle.acceptance.specs.Acceptance.{loneRefusal, amendedRefusal, planRefusal, lineRefusal, memberRefusal, fieldRules, benefitRules}
 use Rattle.costs.specs.Setting.{Setting}
 use Rattle.costs.specs.Costs.{W, PV, cost, N, L}
 use Rattle.costs.specs.Valuation.{settingOf}
@@ -61,6 +64,18 @@ ceiling-member salary = record { id = 7; person = 1; entry = 30; age = 40; salar
 
 abbrev ceiling-benefit : Ratio
 ceiling-benefit = exactBenefit ceiling-plan short (ceiling-member 66666667) Final 60
+
+-- rule 14.26: three amendments to the short plan, of which the struck second puts out the third
+abbrev pub short-list : List Amendment
+short-list = amend 1 0 250 0 ∷ amend 2 0 1000 1 ∷ amend 3 2 500 0 ∷ []
+
+abbrev amended-setting : Setting
+amended-setting = settingOf (asValued short-plan short-list) short short-member
+
+-- rule 14.28: by an amendment a benefit passes the ceiling of rule 7.8
+abbrev raised-plan : Plan
+raised-plan =
+    record { interest = 1000; retire = 60; pay = 1; formula = 3; unit = 499; average = 1; method = 4; assets = 2000; years = 2 }
 
 unfoldable pub member-figures : List Figure
 member-figures =
@@ -105,11 +120,11 @@ member-figures =
     ∷ (benefit 3 2 64 is 18182)
     ∷ (benefit 3 2 65 is 38182)
     ∷ (benefit 3 1 65 is 40000)
-    ∷ (loneRefusal short-plan short short-member is 0)
+    ∷ (loneRefusal short-plan [] short short-member is 0)
     ∷ (10 * ceiling-benefit .upper is 1000000005 * ceiling-benefit .lower)
     ∷ (B ceiling-plan short (ceiling-member 66666667) 60 is 100000000)
-    ∷ (loneRefusal ceiling-plan short (ceiling-member 66666667) is 0)
-    ∷ (loneRefusal ceiling-plan short (ceiling-member 66666668) is 25)
+    ∷ (loneRefusal ceiling-plan [] short (ceiling-member 66666667) is 0)
+    ∷ (loneRefusal ceiling-plan [] short (ceiling-member 66666668) is 25)
     ∷ (B ceiling-plan short (ceiling-member 33333333) 60 is 50000000)
     ∷ (B ceiling-plan short (ceiling-member 33333334) 60 is 50000001)
     ∷ (B ceiling-plan short (ceiling-member 33333335) 60 is 50000002)
@@ -119,8 +134,19 @@ member-figures =
     ∷ (lineRefusal ceiling-plan short 0 50000000 (ceiling-member 33333334) is 29)
     ∷ (lineRefusal ceiling-plan short 0 50000002 (ceiling-member 33333332) is 0)
     ∷ (lineRefusal ceiling-plan short 0 100000000 (ceiling-member 1) is 29)
+    ∷ (unitValued short-plan short-list is 10250)
+    ∷ (loneRefusal short-plan short-list short short-member is 0)
+    ∷ (B (asValued short-plan short-list) short short-member 65 is 20500)
+    ∷ (PV amended-setting 64 is 18636)
+    ∷ (N amended-setting CD 64 is 8874)
+    ∷ (L amended-setting CD 64 is 9762)
+    ∷ (loneRefusal raised-plan (amend 1 0 1 0 ∷ []) short (ceiling-member 66666667) is 0)
+    ∷ (loneRefusal raised-plan [] short (ceiling-member 66666668) is 0)
+    ∷ (loneRefusal raised-plan (amend 1 0 1 0 ∷ []) short (ceiling-member 66666668) is 25)
+    ∷ (loneRefusal raised-plan (amend 1 0 1 1 ∷ []) short (ceiling-member 66666668) is 0)
+    ∷ (loneRefusal raised-plan (amend 1 0 2 0 ∷ []) short (ceiling-member 66666668) is 55)
     ∷ []
 
 pub figures-are : all-are member-figures ≡ true
-unfolding member-figures factors rates short able serves leaves stays staying nearest carried step A pension G T Z _over_ whole _⊕_ _⊗_ inverse summed formulaOf pay pays exactBenefit B PV cost N L loneRefusal planRefusal headRules rowsRefusal rowRules lineRefusal memberRefusal fieldRules benefitRules
+unfolding member-figures factors rates short able serves leaves stays staying nearest carried step A pension G T Z _over_ whole _⊕_ _⊗_ inverse summed formulaOf pay pays exactBenefit B PV cost N L loneRefusal amendedRefusal listed stands inForceAfter additions amendmentRules unitRefusal eachRefusal amendmentsRefusal planRefusal headRules rowsRefusal rowRules lineRefusal memberRefusal fieldRules benefitRules
 figures-are = refl

@@ -8,11 +8,13 @@ use Rattle.fractions.specs.Ratio.{_over_}
 use Rattle.factors.specs.Basis.{Basis, basis, payable}
 use Rattle.factors.specs.Accuracy.{Within}
 use Rattle.plan.specs.declared.Plan.{Plan}
+use Rattle.plan.specs.declared.Amendment.{Amendment}
 use Rattle.plan.specs.declared.Member.{Member}
 use Rattle.plan.specs.declared.Method.{Method}
 use Rattle.plan.specs.declared.Method.the-variants.{AB, BD, BP, CD, CP}
 use Rattle.plan.specs.Benefit.{B}
-use Rattle.acceptance.specs.Acceptance.{planRefusal, memberRefusal, loneRefusal}
+use Rattle.amendments.specs.Force.{asValued}
+use Rattle.acceptance.specs.Acceptance.{amendedRefusal, memberRefusal, loneRefusal}
 use Rattle.costs.specs.declared.Figures.{Figures}
 use Rattle.costs.specs.declared.Valuation.{Valuation}
 use Rattle.costs.specs.declared.Valuation.the-variants.{Valued, Refused}
@@ -42,10 +44,6 @@ module _ (p : Plan) (rows : List (List ℕ)) (m : Member) where
   unfoldable pub figures : Figures
   figures = figuresAt (methodOf (p .method)) (m .age)
 
-  -- rule 5.3: the figures, or the refusal with line 0
-  unfoldable pub valuation : Valuation
-  valuation = let number = loneRefusal p rows m in cond (eqb number 0) (Valued figures) (Refused number 0)
-
   -- rule 10.9, of an answer: N and L lie within 15 cents of their exact fractions, N of CP within 15 × W(x) / W(y)
   abbrev pub Limited : Valuation → Type 0
   Limited (Valued f) =
@@ -53,16 +51,22 @@ module _ (p : Plan) (rows : List (List ℕ)) (m : Member) where
       × Within (15 over 1) (f .liability) (L* settingOf (methodOf (p .method)) (m .age))
   Limited (Refused number line) = Unit {0}
 
--- ---- demand 3, of every member that the rules accept: whatever the id before it, each age of its own, each of the five methods
-pub record Accepted (p : Plan) (rows : List (List ℕ)) (before : ℕ) (m : Member) : Type 0 where
-  pub plan : planRefusal p rows ≡ 0
-  pub member : memberRefusal p rows before m ≡ 0
+-- rules 5.3 and 2.13: the figures under the plan as it is valued, or the refusal with line 0
+unfoldable pub valuation : Plan → List Amendment → List (List ℕ) → Member → Valuation
+valuation p l rows m =
+    let number = loneRefusal p l rows m in
+    cond (eqb number 0) (Valued (figures (asValued p l) rows m)) (Refused number 0)
 
--- what holds of a setting, a method and an age, holds of every accepted member
+-- ---- demand 3, of every member that the rules accept: whatever the amendments and the id before it, each age of its own, each of the five methods
+pub record Accepted (p : Plan) (l : List Amendment) (rows : List (List ℕ)) (before : ℕ) (m : Member) : Type 0 where
+  pub plan : amendedRefusal p l rows ≡ 0
+  pub member : memberRefusal (asValued p l) rows before m ≡ 0
+
+-- what holds of a setting, a method and an age, holds of every accepted member, under the plan as it is valued
 abbrev pub Of-Every-Accepted : (Setting → Method → ℕ → Type 0) → Type 0
 Of-Every-Accepted P =
-    (p : Plan) (rows : List (List ℕ)) (before : ℕ) (m : Member) → Accepted p rows before m
-    → (method : Method) (k : ℕ) → m .entry ≤ k → k ≤ p .retire → P (settingOf p rows m) method k
+    (p : Plan) (l : List Amendment) (rows : List (List ℕ)) (before : ℕ) (m : Member) → Accepted p l rows before m
+    → (method : Method) (k : ℕ) → m .entry ≤ k → k ≤ p .retire → P (settingOf (asValued p l) rows m) method k
 
 -- rule 10.8: the two forms of the liability are equal fractions
 abbrev pub Demand-3-Forms : Type 0

@@ -17,11 +17,10 @@ use Rattle.rules.specs.Heading.{termRules, termRule}
 use Rattle.rules.proofs.TermLaws.{only-before}
 use Rattle.walk.specs.Outcome.{refusal, settled}
 use Rattle.walk.specs.Terms.{termForms, termForm, termRefusal}
-use Rattle.walk.specs.Step.{heading, right, withTerm, afterTerm, termLine, verdictOf}
+use Rattle.walk.specs.Step.{heading, right, afterTerm, termLine, verdictOf}
 use Rattle.walk.specs.Walk.{start, walkFrom}
 use Rattle.walk.specs.Kept.{Each}
 use Rattle.walk.proofs.StepLaws.{each-next}
-use Rattle.stretches.specs.Heads.{headed}
 use Rattle.stretches.proofs.StretchLaws.{line-cut, line-wrong, line-refused, line-passed, next-rest, next-within}
 use Rattle.heading.specs.Stretch.{HeadDone}
 
@@ -37,7 +36,7 @@ pub record TermsRead (ranges : Bool) (s terms : List ℕ) (line at k : ℕ) : Ty
   pub place : line ≡ k + 1
   pub within : at ≤ length s
   pub kept : ranges ≡ true → Each termRefusal (take k terms)
-  pub way : walkFrom ranges 1 start s ≡ walkFrom ranges line (afterTerm (headed (take k terms))) (drop at s)
+  pub way : walkFrom ranges 1 start s ≡ walkFrom ranges line (afterTerm (take k terms)) (drop at s)
 
 pub terms-none : (ranges : Bool) (s terms : List ℕ) → length terms ≡ length termRules → TermsRead ranges s terms 1 0 0
 unfolding termForms
@@ -51,24 +50,24 @@ module _ {ranges : Bool} {s terms : List ℕ} {line at k : ℕ} (t : TermsRead r
   count : length (take k terms) ≡ k
   count = length-take-le k terms (omega (arith, t .size))
 
-  due : walkFrom ranges 1 start s ≡ walkFrom ranges line (heading (headed (take k terms))) (drop at s)
+  due : walkFrom ranges 1 start s ≡ walkFrom ranges line (heading (take k terms)) (drop at s)
   due =
       t .way ∙ simp (ne-eqb (length (take k terms)) (length termForms) (λ e. omega (arith, count, as-many)))
 
   pub terms-cut : r ≡ Cut → walkFrom ranges 1 start s ≡ refusal 2 line
-  terms-cut is = due ∙ line-cut ranges line (heading (headed (take k terms))) (drop at s) (is-cut (termForm k) (drop at s) (read .0) is)
+  terms-cut is = due ∙ line-cut ranges line (heading (take k terms)) (drop at s) (is-cut (termForm k) (drop at s) (read .0) is)
 
-  form : {x : Values} (ahead : List ℕ) → termForm k (uptoOf 10 (drop at s)) ≡ x → verdictOf (heading (headed (take k terms))) (uptoOf 10 (drop at s)) ahead ≡ termLine (headed (take k terms)) x
+  form : {x : Values} (ahead : List ℕ) → termForm k (uptoOf 10 (drop at s)) ≡ x → verdictOf (heading (take k terms)) (uptoOf 10 (drop at s)) ahead ≡ termLine (take k terms) x
   unfolding verdictOf
   form ahead is = rw (count, is)
 
   pub terms-wrong : r ≡ Wrong → walkFrom ranges 1 start s ≡ refusal 10 line
   terms-wrong is =
       let w = is-wrong (termForm k) (drop at s) (read .0) is in
-      due ∙ line-wrong ranges line (heading (headed (take k terms))) (drop at s) (w .0) (form (uptoOf 10 (pastOf 10 (drop at s))) (w .1))
+      due ∙ line-wrong ranges line (heading (take k terms)) (drop at s) (w .0) (form (uptoOf 10 (pastOf 10 (drop at s))) (w .1))
 
   module _ {e x : ℕ} (is : r ≡ Good e) (rule : x ≡ settled ranges (termRule k terms (getD values 0 0))) where
-    good : verdictOf (heading (headed (take k terms))) (uptoOf 10 (drop at s)) (uptoOf 10 (pastOf 10 (drop at s))) ≡ right (termRefusal (take k terms) (getD values 0 0)) (afterTerm (withTerm (headed (take k terms)) (getD values 0 0)))
+    good : verdictOf (heading (take k terms)) (uptoOf 10 (drop at s)) (uptoOf 10 (pastOf 10 (drop at s))) ≡ right (termRefusal (take k terms) (getD values 0 0)) (afterTerm (take k terms ++ getD values 0 0 ∷ []))
     good = form (uptoOf 10 (pastOf 10 (drop at s))) (read .1 e is .is) ∙ rw (getD-take 1 values 0 0 (omega arith))
 
     judged : x ≡ settled ranges (termRefusal (take k terms) (getD values 0 0))
@@ -76,7 +75,7 @@ module _ {ranges : Bool} {s terms : List ℕ} {line at k : ℕ} (t : TermsRead r
 
     pub terms-refused : (x ≡ 0 → ⊥) → walkFrom ranges 1 start s ≡ refusal x line
     terms-refused h =
-        due ∙ line-refused ranges line (heading (headed (take k terms))) (drop at s) (is-good (termForm k) (drop at s) (read .0) is .has) good judged h
+        due ∙ line-refused ranges line (heading (take k terms)) (drop at s) (is-good (termForm k) (drop at s) (read .0) is .has) good judged h
 
     pub terms-place : at + (e + 1) ≤ length s
     terms-place = next-within s at e (is-good (termForm k) (drop at s) (read .0) is)
@@ -91,7 +90,7 @@ module _ {ranges : Bool} {s terms : List ℕ} {line at k : ℕ} (t : TermsRead r
           place = omega (arith, t .place);
           within = next-within s at e g;
           kept = λ on. rw stored (each-next termRefusal [] (take k terms) (getD values 0 0) .1 (t .kept on, sym (judged ∙ rw on) ∙ h));
-          way = due ∙ line-passed ranges line (heading (headed (take k terms))) (drop at s) (g .has) good judged h (next-rest s at e g) ∙ rw stored;
+          way = due ∙ line-passed ranges line (heading (take k terms)) (drop at s) (g .has) good judged h (next-rest s at e g) ∙ rw stored;
         }
 
 -- all are read

@@ -40,7 +40,7 @@ module _ (s : List ℕ) where
   read-refused = refused-is (walkOf false s)
 
 -- ---- accepting
-pub accept-none : (o : Outcome Case) {r : Accepting} {p : Plan} {n : ℕ} → r ≡ accepting o → r ≡ Accepted p n → (0 ≡ numberOf o) × (0 ≡ lineNumberOf o)
+pub accept-none : (o : Outcome Case) {r : Accepting} {p : Plan} {k n : ℕ} → r ≡ accepting o → r ≡ Accepted p k n → (0 ≡ numberOf o) × (0 ≡ lineNumberOf o)
 accept-none (values c) e is = (refl, refl)
 accept-none (refusal k j) e is = let z : _≡_ {A = ℕ} 0 1 = cc in absurd (omega arith)
 

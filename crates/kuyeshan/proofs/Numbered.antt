@@ -6,10 +6,12 @@ use native.Mathlib.Omega.{arith}
 use borrow.Author.Tests.{ne-eqb}
 use lib.Dec.{leb, eqb}
 use lib.ListN.{length}
+use Rattle.amendments.specs.Force.{asValued}
 use Rattle.acceptance.specs.Acceptance.{loneRefusal}
 use Rattle.walk.specs.Outcome.{Outcome, values, refusal, andThen}
-use Rattle.walk.specs.Answers.{Section, FormOf, term-cut, term-form, row-cut, row-form, tail-cut, count, tail-form, surplus, after-end, RangeOf, of-a-term, of-average, of-a-rate, of-death, of-weight, of-id, of-person, of-entry, of-age, of-salary, of-benefit, of-sum, Placed, no-line, of-form, of-range}
+use Rattle.walk.specs.Answers.{Section, FormOf, term-cut, term-form, amend-cut, amend-form, twenty-first, row-cut, row-form, tail-cut, count, tail-form, surplus, after-end, RangeOf, of-a-term, of-average, of-a-field, of-order, of-rest, of-unit, of-a-rate, of-death, of-weight, of-id, of-person, of-entry, of-age, of-salary, of-benefit, of-sum, Placed, no-line, of-form, of-range}
 use Rattle.walk.proofs.Theorems.{refusals-are-placed}
+use Rattle.walk.specs.Walk.{valuedPlan}
 use Rattle.casefile.specs.Answers.{acceptingOf}
 use Rattle.costs.specs.declared.Figures.{Figures}
 use Rattle.costs.specs.declared.Valuation.the-variants.{Valued, Refused}
@@ -22,6 +24,9 @@ use Rattle.kuyeshan.specs.Statements.{Numbered, ReadingNumbered, Accepti
 form-above : {section : Section} {n : ℕ} → FormOf section n → 0 < n
 form-above term-cut = omega arith
 form-above term-form = omega arith
+form-above amend-cut = omega arith
+form-above amend-form = omega arith
+form-above twenty-first = omega arith
 form-above row-cut = omega arith
 form-above row-form = omega arith
 form-above tail-cut = omega arith
@@ -33,6 +38,10 @@ form-above after-end = omega arith
 range-above : {section : Section} {n : ℕ} → RangeOf section n → 0 < n
 range-above of-a-term = omega arith
 range-above of-average = omega arith
+range-above of-a-field = omega arith
+range-above of-order = omega arith
+range-above of-rest = omega arith
+range-above of-unit = omega arith
 range-above of-a-rate = omega arith
 range-above of-death = omega arith
 range-above of-weight = omega arith
@@ -73,12 +82,12 @@ then-numbered (refusal k j) more first after = λ number line is. first number l
 pub valuing-numbered : ValuingNumbered
 unfolding valuedOf
 valuing-numbered room case =
-    then-numbered (acceptingOf case) _ (accepting-numbered case) (λ c. fitting-numbered room (printed (c .plan) (c .rows) (c .members)))
+    then-numbered (acceptingOf case) _ (accepting-numbered case) (λ c. fitting-numbered room (printed (valuedPlan c) (c .rows) (c .members)))
 
 -- ---- plain values
 pub member-numbered : MemberNumbered
 unfolding valuation
-member-numbered p rows m = by (loneRefusal p rows m) (figures p rows m)
+member-numbered p l rows m = by (loneRefusal p l rows m) (figures (asValued p l) rows m)
   where
     by : (n : ℕ) (f : Figures) (number line : ℕ) → cond (eqb n 0) (Valued f) (Refused n 0) ≡ Refused number line → 0 < number
     by zero f number line is = let z : _≡_ {A = ℕ} 0 1 = cc in absurd (omega arith)

@@ -4,6 +4,7 @@ use mathlib.Core.Path.{_≡_}
 use mathlib.Core.List.{List}
 use mathlib.Core.Bool.{false}
 use Rattle.plan.specs.declared.Plan.{Plan}
+use Rattle.plan.specs.declared.Amendment.{Amendment}
 use Rattle.plan.specs.declared.Member.{Member}
 use Rattle.walk.specs.Outcome.{Outcome, refusal}
 use Rattle.walk.specs.Walk.{walkOf}
@@ -31,4 +32,5 @@ FittingNumbered = (room : ℕ) (lines : List ℕ) → Numbered (fitting room lin
 
 -- the same of plain values
 abbrev pub MemberNumbered : Type 0
-MemberNumbered = (p : Plan) (rows : List (List ℕ)) (m : Member) (number line : ℕ) → valuation p rows m ≡ Refused number line → 0 < number
+MemberNumbered =
+    (p : Plan) (l : List Amendment) (rows : List (List ℕ)) (m : Member) (number line : ℕ) → valuation p l rows m ≡ Refused number line → 0 < number

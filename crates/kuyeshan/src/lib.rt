@@ -5,6 +5,7 @@ use casefile::Accepting;
 use casefile::Reading;
 use costs::Valuation;
 use fitting::Answer;
+use plan::MOST_AMENDMENTS;
 use plan::MOST_MEMBERS;
 use plan::Member;
 use plan::Terms;
@@ -16,6 +17,7 @@ ghost use mathlib.Core.Path.{_≡_};
 ghost use mathlib.Core.Bool.{false};
 ghost use lib.ListN.{length};
 ghost use Rattle.rules.specs.Heading.{planFrom};
+ghost use Rattle.amendments.specs.Force.{amendmentsFrom};
 ghost use Rattle.walk.specs.Walk.{walkOf};
 ghost use Rattle.casefile.specs.Answers.{acceptingOf};
 ghost use Rattle.costs.specs.Valuation.{valuation};
@@ -50,10 +52,11 @@ pub extern "C" fn kuyeshan_accept(case: &[u8], line: &mut u64) -> u64
     ensures { λ r. ⌜ r ≡ numberOf (acceptingOf (now (case .entry))) ⌝ }
     ensures { λ _. ⌜ now (line .exit) ≡ lineNumberOf (acceptingOf (now (case .entry))) ⌝ }
 {
+    let mut amendments = [[0u64; 4]; MOST_AMENDMENTS];
     let mut rows = [[0u32; 4]; AGES];
     let mut members = [[0u64; 5]; MOST_MEMBERS];
-    match casefile::accept_case(case, &mut rows, &mut members) {
-        Accepting::Accepted(_, _) => {
+    match casefile::accept_case(case, &mut amendments, &mut rows, &mut members) {
+        Accepting::Accepted(_, _, _) => {
             *line = 0;
             0
         }
@@ -164,21 +167,22 @@ pub extern "C" fn kuyeshan_refusal_line(
     }
 }
 
-// Rule 5.5: values a lone member of a plan, all of them plain numbers: its benefit, present value, normal cost and
-// liability go to `figures`. A refusal leaves `figures` as they were; its line would be 0.
+// Rules 5.5 and 5.6: values a lone member of a plan with its amendments, all of them plain numbers: its benefit, present value,
+// normal cost and liability go to `figures`. A refusal leaves `figures` as they were; its line would be 0.
 #[no_mangle]
 pub extern "C" fn kuyeshan_value_member(
     plan: &Terms,
+    amendments: &[[u64; 4]],
     rows: &Rows,
     member: &[u64; 5],
     figures: &mut [u64; 4],
 ) -> u64
-    ensures { λ r. ⌜ r ≡ refusedBy (valuation (planFrom (now (plan .entry))) (now (rows .entry)) (memberFrom (now (member .entry)))) ⌝ }
-    ensures { λ _. ⌜ now (figures .exit) ≡ figuresAfter (valuation (planFrom (now (plan .entry))) (now (rows .entry)) (memberFrom (now (member .entry)))) (now (figures .entry)) ⌝ }
+    ensures { λ r. ⌜ r ≡ refusedBy (valuation (planFrom (now (plan .entry))) (amendmentsFrom (now (amendments .entry))) (now (rows .entry)) (memberFrom (now (member .entry)))) ⌝ }
+    ensures { λ _. ⌜ now (figures .exit) ≡ figuresAfter (valuation (planFrom (now (plan .entry))) (amendmentsFrom (now (amendments .entry))) (now (rows .entry)) (memberFrom (now (member .entry)))) (now (figures .entry)) ⌝ }
 {
     let p = plan_from(plan);
     let m = member_of(member);
-    match plain_engine::value_member(p, *rows, m) {
+    match plain_engine::value_member(p, amendments, *rows, m) {
         Valuation::Valued(f) => {
             *figures = [f.benefit, f.value, f.cost, f.liability];
             0

@@ -1,8 +1,6 @@
 // What a method counts by, worked from a plan, a table and a member: benefit, years, weights or a temporary annuity. The
 // annuities are an engine's: it hands in G of all ages, and T or Z from entry up to k and up to r, and here the parts are
 // made of them, for any engine alike.
-use annuity::Factors;
-use annuity::of_age;
 use parts::Parts;
 use plan::Member;
 use plan::Method;
@@ -10,11 +8,13 @@ use plan::Plan;
 use plan::benefit::accrued_benefit;
 use plan::benefit::weights_between;
 use rates::Rows;
+use year_steps::Factors;
+use year_steps::of_age;
 ghost use mathlib.Core.Path.{_≡_};
 ghost use Prim.Native.Nat.{_-_, _≤_, _<_};
 ghost use Rattle.rates.specs.Table.{weight};
 ghost use Rattle.factors.specs.Factors.{G};
-ghost use Rattle.annuity.specs.Filled.{Filled};
+ghost use Rattle.year_steps.specs.Filled.{Filled};
 ghost use Rattle.plan.specs.Weights.{summed};
 ghost use Rattle.plan.specs.Ranges.{MemberRanges};
 ghost use Rattle.costs.specs.Valuation.{settingOf, planBasis};
@@ -97,7 +97,7 @@ fn divisor(p: Plan, rows: &Rows, m: Member, method: Method, all: u64) -> u64
     ensures { λ r. ⌜ r ≡ Parts·divisor (settingOf p (now (rows .entry)) m) method ⌝ }
 {
     match method {
-        Method::AB => annuity::S,
+        Method::AB => year_steps::S,
         Method::BD => p.retire - m.entry,
         Method::BP => weights_from_entry(p, rows, m, p.retire as usize),
         Method::CD => all,

@@ -31,6 +31,7 @@ use Rattle.members.specs.declared.Kind.{Kind}
 use Rattle.members.specs.declared.Kind.the-variants.{Listed, End, Surplus, Neither, Cut}
 use Rattle.members.specs.declared.Count.{Count}
 use Rattle.members.specs.declared.Count.the-variants.{Counted, Refused}
+use Rattle.stretches.specs.Arrays.{filled}
 use Rattle.members.specs.Array.{numbersOf, arrayOf}
 use Rattle.members.specs.Tails.{kindOf, TailHeld}
 use Rattle.members.specs.Stretch.{SameHead, MembersAre, endCount}
@@ -74,7 +75,7 @@ pub record MembersRead (ranges : Bool) (p : Plan) (rows : List (List ℕ)) (firs
   pub way : (h : Head) → SameHead ranges p rows h → walkFrom ranges first (people h []) s ≡ walkFrom ranges (first + count) (people h members) (drop at s)
 
 pub members-none : (ranges : Bool) (p : Plan) (rows : List (List ℕ)) (first : ℕ) (s : List ℕ) → MembersRead ranges p rows first s (replicate mostMembers (replicate 5 0)) (replicate 6098 0) (replicate 1000 (replicate 2 0)) 0 0 0
-unfolding arrayOf personSum
+unfolding arrayOf filled personSum
 members-none ranges p rows first s =
     let here : first + 0 ≡ first = omega arith in
     record { members = []; many = refl; few = omega arith; within = omega arith; id = refl; held = refl; rooted = rooted-none; summed = λ on person. held-zeros 1000 person; way = λ h fits. rw here }

@@ -8,17 +8,16 @@ use lib.Dec.{eqb}
 use Rattle.plan.specs.declared.Plan.{Plan}
 use Rattle.plan.specs.declared.Member.{Member}
 use Rattle.rules.specs.Refusals.{bytesAfter, wrongCount}
-use Rattle.rules.specs.Heading.{planFrom}
 use Rattle.walk.specs.Outcome.{values, refusal}
-use Rattle.walk.specs.Step.{Head, people}
+use Rattle.walk.specs.Step.{Head, planIn, people}
 use Rattle.walk.specs.Walk.{caseOf, walkFrom}
 use Rattle.members.specs.declared.Count.{Count}
 use Rattle.members.specs.declared.Count.the-variants.{Counted, Refused}
 use Rattle.members.specs.Array.{arrayOf}
 
--- where the ranges are settled, a plan and its rows are those of a head
+-- where the ranges are settled, a plan and its rows are those of a head: the plan as it is valued (rule 2.13)
 abbrev pub SameHead : (ranges : Bool) → Plan → List (List ℕ) → Head → Type 0
-SameHead ranges p rows h = ranges ≡ true → (p ≡ planFrom (h .terms)) × (rows ≡ h .rows)
+SameHead ranges p rows h = ranges ≡ true → (p ≡ planIn h) × (rows ≡ h .rows)
 
 -- the members and the end, after a head
 pub record MembersDone (ranges : Bool) (h : Head) (first : ℕ) (s : List ℕ) (n : ℕ) (array : List (List ℕ)) : Type 0 where

@@ -48,7 +48,7 @@ fn cost_factor(q: Parts, method: Method, value: u64) -> u64
         Method::BD => value,
         Method::BP => value,
         Method::CD => q.benefit * q.entered,
-        Method::CP => worth(q.benefit, q.entered) * annuity::S,
+        Method::CP => worth(q.benefit, q.entered) * year_steps::S,
     }
 }
 
@@ -71,7 +71,7 @@ fn worth(benefit: u64, deferred: u64) -> u64
     requires { ⌜ (benefit ≤ 100000000) × (deferred ≤ 71 * S) ⌝ }
     ensures { λ r. ⌜ (r ≡ nearest (benefit * deferred) S) × (r ≤ 7100000000) ⌝ }
 {
-    rounding::mul_div_nearest(benefit, deferred, annuity::S)
+    rounding::mul_div_nearest(benefit, deferred, year_steps::S)
 }
 
 // factor * part / whole.

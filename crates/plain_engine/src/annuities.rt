@@ -1,11 +1,11 @@
 // The parts of a member's figures by annuities of its own: G, and T or Z where the method asks for it.
-use annuity::of_age;
 use measures::parts_from;
 use parts::Parts;
 use plan::Member;
 use plan::Method;
 use plan::Plan;
 use rates::Rows;
+use year_steps::of_age;
 ghost use mathlib.Core.Path.{_≡_};
 ghost use Prim.Native.Nat.{_≤_};
 ghost use Rattle.factors.specs.Factors.{T, Z};

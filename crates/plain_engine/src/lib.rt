@@ -4,6 +4,7 @@
 mod annuities;
 
 use acceptance::lone_refusal;
+use amendments::as_valued;
 use costs::Figures;
 use costs::Valuation;
 use parts::figures_from;
@@ -13,18 +14,20 @@ use plan::Plan;
 use rates::Rows;
 ghost use mathlib.Core.Path.{_≡_};
 ghost use Rattle.plan.specs.Ranges.{MemberRanges};
+ghost use Rattle.amendments.specs.Force.{amendmentsFrom, asValued};
 ghost use Rattle.costs.specs.Valuation.{figures, valuation, Limited};
 
-// Rules 5.5 and 9.11: values a lone member of a plan.
-pub fn value_member(p: Plan, rows: Rows, m: Member) -> Valuation
-    ensures figures { λ r. ⌜ r ≡ valuation p rows m ⌝ }
-    ensures limits { λ r. ⌜ Limited p rows m r ⌝ }
+// Rules 5.5, 5.6 and 9.11: values a lone member of a plan with its amendments.
+pub fn value_member(p: Plan, amendments: &[[u64; 4]], rows: Rows, m: Member) -> Valuation
+    ensures figures { λ r. ⌜ r ≡ valuation p (amendmentsFrom (now (amendments .entry))) rows m ⌝ }
+    ensures limits { λ r. ⌜ Limited (asValued p (amendmentsFrom (now (amendments .entry)))) rows m r ⌝ }
 {
-    let refusal = lone_refusal(p, rows, m);
+    let refusal = lone_refusal(p, amendments, rows, m);
     if refusal != 0 {
         return Valuation::Refused(refusal, 0);
     }
-    Valuation::Valued(figures_of(p, rows, m))
+    let valued = as_valued(p, amendments);
+    Valuation::Valued(figures_of(valued, rows, m))
 }
 
 // The figures of an accepted member at its own age, by the plan's method and by factors of its own.

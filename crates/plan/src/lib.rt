@@ -1,4 +1,4 @@
-// A plan and a member handed in as plain values (rules 5.3 to 5.5), and pay and benefit, RULES section 7; the rows are the
+// A plan, its amendments and a member handed in as plain values (rules 5.3 to 5.6), and pay and benefit, RULES section 7; the rows are the
 // crate rates'. benefit.rt has the accrued benefit. specs/ has what every contract is an equation with, pay and benefit in Benefit and
 // Weights; in Ranges what the benefit asks of a plan and a member; and in Rising the law that the benefit never falls. A formula
 // or method is a code: 1 flat, 2 career, 3 final; 1 AB, 2 BD, 3 BP, 4 CD, 5 CP; so a field that was never set is refused. Money
@@ -47,6 +47,22 @@ pub struct Member {
     pub age: u64,
     pub salary: u64,
 }
+
+// Rule 2.11: an amendment to the unit.
+pub struct Amendment {
+    pub number: u64,
+    // The number that it rests on, 0 for none.
+    pub rests: u64,
+    // What it adds to the unit.
+    pub add: u64,
+    // 1 where it is struck out, else 0.
+    pub struck: u64,
+}
+
+// So many amendments at most, each by its number, the number that it rests on, its addition and whether it is struck.
+pub const MOST_AMENDMENTS: usize = 20;
+
+pub type Amendments = [[u64; 4]; MOST_AMENDMENTS];
 
 // Rule 4.1: so many members at most.
 pub const MOST_MEMBERS: usize = 1_000;

@@ -18,16 +18,17 @@ use Rattle.fields.proofs.SplitLaws.{and-true-left, and-true-right}
 use Rattle.fields.proofs.AnswerLaws.{is-good, is-wrong, is-cut, Answers}
 use Rattle.rates.specs.Table.{ages}
 use Rattle.rules.specs.Rules.{firstOf, between}
-use Rattle.rules.specs.Table.{rowRules, rowNumbers, weightBefore}
-use Rattle.rules.proofs.TableLaws.{weight-passed}
+use Rattle.row_rules.specs.Table.{rowRules, rowNumbers, weightBefore}
+use Rattle.row_rules.proofs.TableLaws.{weight-passed}
 use Rattle.rules.proofs.RuleLaws.{all-kept, kept}
+use Rattle.plan.specs.declared.Amendment.{Amendment}
 use Rattle.walk.specs.Outcome.{refusal, settled}
 use Rattle.walk.specs.Lines.{rowForm, dueAge, rowRefusal}
 use Rattle.walk.specs.Step.{table, right, withRow, afterRow, rowLine, verdictOf}
 use Rattle.walk.specs.Walk.{walkFrom}
 use Rattle.walk.specs.Kept.{Each}
 use Rattle.walk.proofs.StepLaws.{each-next}
-use Rattle.stretches.specs.Heads.{headed, tabled}
+use Rattle.stretches.specs.Heads.{amended, tabled}
 use Rattle.stretches.proofs.StretchLaws.{line-cut, line-wrong, line-refused, line-passed, next-rest, next-within}
 use Rattle.rows.specs.Narrow.{fourOf, RowHeld, narrowOf}
 use Rattle.rows.specs.Stretch.{RowsDone}
@@ -64,42 +65,42 @@ pub record RowsRead (ranges : Bool) (first : ℕ) (s : List ℕ) (array : List (
   pub held : take k array ≡ map (map narrowOf) rows
   pub exact : ranges ≡ true → map (map narrowOf) rows ≡ rows
   pub kept : ranges ≡ true → Each rowRefusal rows
-  pub way : (t : List ℕ) → walkFrom ranges first (table (headed t)) s ≡ walkFrom ranges line (afterRow (tabled t rows)) (drop at s)
+  pub way : (t : List ℕ) (l : List Amendment) → walkFrom ranges first (table (amended t l)) s ≡ walkFrom ranges line (afterRow (tabled t l rows)) (drop at s)
 
 pub rows-none : (ranges : Bool) (first : ℕ) (s : List ℕ) (array : List (List ℕ)) → length array ≡ 106 → RowsRead ranges first s array first 0 0 0
 rows-none ranges first s array size =
-    record { rows = []; many = refl; size = size; few = omega arith; place = omega arith; within = omega arith; weighed = refl; held = refl; exact = λ on. refl; kept = λ on. tt; way = λ t. refl }
+    record { rows = []; many = refl; size = size; few = omega arith; place = omega arith; within = omega arith; weighed = refl; held = refl; exact = λ on. refl; kept = λ on. tt; way = λ t l. refl }
 
 module _ {ranges : Bool} {first : ℕ} {s : List ℕ} {array : List (List ℕ)} {line at k before : ℕ} (i : RowsRead ranges first s array line at k before) (more : k < 106) (values : List ℕ) {rest : List ℕ} (cut : rest ≡ drop at s) {r : Line} (given : Answers (rowForm (k + 15)) rest r (RowHeld (rowForm (k + 15) (uptoOf 10 rest)) values)) where
   read : Answers (rowForm (k + 15)) (drop at s) r (RowHeld (rowForm (k + 15) (uptoOf 10 (drop at s))) values)
   read = rw cut at given
 
-  module _ (t : List ℕ) where
-    due : walkFrom ranges first (table (headed t)) s ≡ walkFrom ranges line (table (tabled t (i .rows))) (drop at s)
-    due = i .way t ∙ simp (ne-eqb (length (i .rows)) ages (λ e. omega (arith, i .many)))
+  module _ (t : List ℕ) (l : List Amendment) where
+    due : walkFrom ranges first (table (amended t l)) s ≡ walkFrom ranges line (table (tabled t l (i .rows))) (drop at s)
+    due = i .way t l ∙ simp (ne-eqb (length (i .rows)) ages (λ e. omega (arith, i .many)))
 
-    pub rows-cut : r ≡ Cut → walkFrom ranges first (table (headed t)) s ≡ refusal 2 line
-    rows-cut is = due ∙ line-cut ranges line (table (tabled t (i .rows))) (drop at s) (is-cut (rowForm (k + 15)) (drop at s) (read .0) is)
+    pub rows-cut : r ≡ Cut → walkFrom ranges first (table (amended t l)) s ≡ refusal 2 line
+    rows-cut is = due ∙ line-cut ranges line (table (tabled t l (i .rows))) (drop at s) (is-cut (rowForm (k + 15)) (drop at s) (read .0) is)
 
-    form : {x : Values} (ahead : List ℕ) → rowForm (k + 15) (uptoOf 10 (drop at s)) ≡ x → verdictOf (table (tabled t (i .rows))) (uptoOf 10 (drop at s)) ahead ≡ rowLine (tabled t (i .rows)) x
+    form : {x : Values} (ahead : List ℕ) → rowForm (k + 15) (uptoOf 10 (drop at s)) ≡ x → verdictOf (table (tabled t l (i .rows))) (uptoOf 10 (drop at s)) ahead ≡ rowLine (tabled t l (i .rows)) x
     unfolding verdictOf
     form ahead is = rw (i .many, is)
 
-    pub rows-wrong : r ≡ Wrong → walkFrom ranges first (table (headed t)) s ≡ refusal 10 line
+    pub rows-wrong : r ≡ Wrong → walkFrom ranges first (table (amended t l)) s ≡ refusal 10 line
     rows-wrong is =
         let w = is-wrong (rowForm (k + 15)) (drop at s) (read .0) is in
-        due ∙ line-wrong ranges line (table (tabled t (i .rows))) (drop at s) (w .0) (form (uptoOf 10 (pastOf 10 (drop at s))) (w .1))
+        due ∙ line-wrong ranges line (table (tabled t l (i .rows))) (drop at s) (w .0) (form (uptoOf 10 (pastOf 10 (drop at s))) (w .1))
 
   module _ {e x : ℕ} (is : r ≡ Good e) (rule : x ≡ settled ranges (firstOf (rowRules (k + 15) before (rowNumbers (fourOf values))))) where
     judged : x ≡ settled ranges (rowRefusal (i .rows) (fourOf values))
     judged = rule ∙ rw (i .weighed, i .many)
 
-    good : (t : List ℕ) → verdictOf (table (tabled t (i .rows))) (uptoOf 10 (drop at s)) (uptoOf 10 (pastOf 10 (drop at s))) ≡ right (rowRefusal (i .rows) (fourOf values)) (afterRow (withRow (tabled t (i .rows)) (fourOf values)))
-    good t = form t (uptoOf 10 (pastOf 10 (drop at s))) (read .1 e is .is)
+    good : (t : List ℕ) (l : List Amendment) → verdictOf (table (tabled t l (i .rows))) (uptoOf 10 (drop at s)) (uptoOf 10 (pastOf 10 (drop at s))) ≡ right (rowRefusal (i .rows) (fourOf values)) (afterRow (withRow (tabled t l (i .rows)) (fourOf values)))
+    good t l = form t l (uptoOf 10 (pastOf 10 (drop at s))) (read .1 e is .is)
 
-    pub rows-refused : (x ≡ 0 → ⊥) → (t : List ℕ) → walkFrom ranges first (table (headed t)) s ≡ refusal x line
-    rows-refused h t =
-        due t ∙ line-refused ranges line (table (tabled t (i .rows))) (drop at s) (is-good (rowForm (k + 15)) (drop at s) (read .0) is .has) (good t) judged h
+    pub rows-refused : (x ≡ 0 → ⊥) → (t : List ℕ) (l : List Amendment) → walkFrom ranges first (table (amended t l)) s ≡ refusal x line
+    rows-refused h t l =
+        due t l ∙ line-refused ranges line (table (tabled t l (i .rows))) (drop at s) (is-good (rowForm (k + 15)) (drop at s) (read .0) is .has) (good t l) judged h
 
     pub rows-place : at + (e + 1) ≤ length s
     rows-place = next-within s at e (is-good (rowForm (k + 15)) (drop at s) (read .0) is)
@@ -122,7 +123,7 @@ module _ {ranges : Bool} {first : ℕ} {s : List ℕ} {array : List (List ℕ)} 
           held = stored ∙ rw (i .held, narrow) (sym (map-append (map narrowOf) (i .rows) (four ∷ [])));
           exact = λ on. map-append (map narrowOf) (i .rows) (four ∷ []) ∙ rw (i .exact on, row-narrow (k + 15) before values (sym (rule ∙ rw on) ∙ h));
           kept = λ on. each-next rowRefusal [] (i .rows) four .1 (i .kept on, sym (judged ∙ rw on) ∙ h);
-          way = λ t. due t ∙ line-passed ranges line (table (tabled t (i .rows))) (drop at s) (g .has) (good t) judged h (next-rest s at e g);
+          way = λ t l. due t l ∙ line-passed ranges line (table (tabled t l (i .rows))) (drop at s) (g .has) (good t l) judged h (next-rest s at e g);
         }
 
 -- all are read
@@ -136,5 +137,5 @@ rows-done {array = array} {k = k} i all =
       exact = λ on. sym (take-all k array (omega (arith, i .size))) ∙ i .held ∙ i .exact on;
       place = omega (arith, i .place, i .few);
       within = i .within;
-      way = λ t. i .way t ∙ simp (eq-eqb (length (i .rows)) ages full);
+      way = λ t l. i .way t l ∙ simp (eq-eqb (length (i .rows)) ages full);
     }

@@ -1,4 +1,3 @@
 -- The laws of the rules.
 pub mod RuleLaws
-pub mod TableLaws
 pub mod TermLaws

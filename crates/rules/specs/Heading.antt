@@ -24,8 +24,11 @@ abbrev pub formulaRule : ℕ → ℕ
 formulaRule code = unless (between 1 3 code) planForm
 
 -- rule 2.5, unit: for flat up to 100000 cents a year of service, for the others up to 500 basis points of pay
+abbrev pub unitMost : (formula : ℕ) → ℕ
+unitMost formula = cond (eqb formula 1) 100000 500
+
 abbrev pub unitRule : (formula unit : ℕ) → ℕ
-unitRule formula unit = unless (leb unit (cond (eqb formula 1) 100000 500)) outOfRange
+unitRule formula unit = unless (leb unit (unitMost formula)) outOfRange
 
 -- rule 2.6, average: over 1 to 10 years for final, and 0 where the formula has none
 abbrev pub averageRule : (formula average : ℕ) → ℕ

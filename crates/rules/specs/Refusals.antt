@@ -14,7 +14,8 @@ bytesAfter = 3
 abbrev pub wrongCount : ℕ
 wrongCount = 4
 
--- ---- the plan: the form of a term or a row; a number out of its range; the average; death at 120; a weight
+-- ---- the plan: the form of a term, an amendment or a row; a number out of its range; the average; death at 120; a weight; the number of an amendment,
+-- or one amendment too many; what an amendment rests on; the unit as it is valued
 abbrev pub planForm : ℕ
 planForm = 10
 
@@ -29,6 +30,15 @@ wrongLastDeath = 14
 
 abbrev pub wrongWeight : ℕ
 wrongWeight = 15
+
+abbrev pub wrongAmendment : ℕ
+wrongAmendment = 53
+
+abbrev pub unlistedRest : ℕ
+unlistedRest = 54
+
+abbrev pub highUnit : ℕ
+highUnit = 55
 
 -- ---- a line after the table: its form; the id, entry age, age, salary and benefit of a member; one member too many; the person, and the benefits
 -- of the person's lines together

@@ -1,9 +1,8 @@
-// The range rules of the lines of a plan, RULES sections 2 and 3: terms.rt has those of the heading, rows.rt those of the
-// table, refusals.rt the numbers, and here stands what every rule is made of. A rule answers its refusal number, or 0 where it
-// is kept. specs/ has what every contract is an equation with: the numbers in Refusals, what a rule is in Rules, and the lists
-// of the rules in Heading and Table.
+// The range rules of the heading, RULES section 2, in terms.rt; refusals.rt has the numbers of all refusals, and here stands what
+// every rule is made of, those of the table too, which the crate row_rules has. A rule answers its refusal number, or 0 where it is
+// kept. specs/ has what every contract is an equation with: the numbers in Refusals, what a rule is in Rules, and the list of the
+// rules in Heading.
 pub mod refusals;
-pub mod rows;
 pub mod terms;
 
 ghost use mathlib.Core.Path.{_≡_};

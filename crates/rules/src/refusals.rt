@@ -20,6 +20,12 @@ pub const WRONG_LAST_DEATH: u64 = 14;
 
 pub const WRONG_WEIGHT: u64 = 15;
 
+pub const WRONG_AMENDMENT: u64 = 53;
+
+pub const UNLISTED_REST: u64 = 54;
+
+pub const HIGH_UNIT: u64 = 55;
+
 // A line after the table.
 pub const MEMBER_FORM: u64 = 20;
 

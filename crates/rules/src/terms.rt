@@ -12,7 +12,7 @@ ghost use mathlib.Core.Path.{_≡_};
 ghost use mathlib.Core.List.{[]};
 ghost use lib.ListN.{length};
 ghost use Rattle.rules.specs.Rules.{firstOf};
-ghost use Rattle.rules.specs.Heading.{payRule, unitRule, averageRule, termRule, termRules, termsOf, planFrom, ruled, headRules};
+ghost use Rattle.rules.specs.Heading.{payRule, unitMost, unitRule, averageRule, termRule, termRules, termsOf, planFrom, ruled, headRules};
 
 // The rule of the term with k before it, for the value v: a refusal's number, or 0. Of `terms` only those before it count.
 pub fn term_rule(k: usize, terms: &Terms, v: u64) -> u64
@@ -40,14 +40,16 @@ fn pay_rule(pay: u64) -> u64
 }
 
 // Rule 2.5: cents a year by flat, else basis points of pay.
+pub fn unit_most(formula: u64) -> u64
+    ensures { λ r. ⌜ r ≡ unitMost formula ⌝ }
+{
+    if formula == 1 { 100_000 } else { 500 }
+}
+
 fn unit_rule(formula: u64, unit: u64) -> u64
     ensures { λ r. ⌜ r ≡ unitRule formula unit ⌝ }
 {
-    if formula == 1 {
-        unless(unit <= 100_000, OUT_OF_RANGE)
-    } else {
-        unless(unit <= 500, OUT_OF_RANGE)
-    }
+    unless(unit <= unit_most(formula), OUT_OF_RANGE)
 }
 
 // Rule 2.6: only the final average has one.

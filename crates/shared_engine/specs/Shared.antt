@@ -3,7 +3,7 @@ use mathlib.Core.Bool.{Bool}
 use mathlib.Core.List.{List}
 use Prim.Native.Nat.{ℕ}
 use Rattle.factors.specs.Factors.{G}
-use Rattle.annuity.specs.Filled.{Filled}
+use Rattle.year_steps.specs.Filled.{Filled}
 use Rattle.columns.specs.Columns.{FilledColumns}
 use Rattle.plan.specs.declared.Plan.{Plan}
 use Rattle.costs.specs.Valuation.{methodOf, planBasis}

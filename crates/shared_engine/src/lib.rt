@@ -1,7 +1,6 @@
 // The shared engine: a member's figures by annuities that all members of a plan share. G is filled once a plan. T, by CD, and
 // Z, by CP, stand in columns, each of which is filled when a member first needs it. The crate measures makes the parts
 // of them, as for the plain engine, and the crate parts the figures. specs/Shared.antt says what is kept between two members.
-use annuity::Factors;
 use columns::Columns;
 use columns::Marks;
 use columns::pay_between;
@@ -15,10 +14,11 @@ use plan::Member;
 use plan::Method;
 use plan::Plan;
 use rates::Rows;
+use year_steps::Factors;
 ghost use mathlib.Core.Path.{_≡_};
 ghost use Prim.Native.Nat.{_≤_};
 ghost use Rattle.factors.specs.Factors.{G};
-ghost use Rattle.annuity.specs.Filled.{Filled};
+ghost use Rattle.year_steps.specs.Filled.{Filled};
 ghost use Rattle.columns.specs.Columns.{FilledColumns, ColumnsKept};
 ghost use Rattle.plan.specs.Ranges.{MemberRanges};
 ghost use Rattle.costs.specs.Valuation.{planBasis, settingOf, figures};

@@ -19,6 +19,8 @@ use Rattle.acceptance.proofs.Facts.{plan-facts, id-small, member-facts}
 use Rattle.costs.specs.declared.Figures.{Figures}
 use Rattle.costs.specs.Valuation.{figures}
 use Rattle.parts.proofs.FigureSizes.{SmallFigures, figures-small}
+use Rattle.acceptance.proofs.ValuedLaws.{valued-is-accepted}
+use Rattle.walk.specs.Walk.{valuedPlan}
 use Rattle.walk.specs.Kept.{nobody, idBefore}
 use Rattle.walk.proofs.Accepted.{accepted-keeps}
 use Rattle.casefile.specs.Answers.{acceptingOf}
@@ -61,11 +63,12 @@ pub printed-amounts-fit : Printed-Amounts-Fit
 unfolding unfunded supplemental acceptingOf
 printed-amounts-fit s c accepted =
     let rules = accepted-keeps s c accepted .1 in
-    let p = c .plan in
+    let p = valuedPlan c in
+    let plan = valued-is-accepted (c .plan) (c .amends) (c .rows) (rules .plan) in
     let rows = c .rows in
     let members = c .members in
-    let head = plan-facts p rows (rules .plan) .head in
-    let kept : (j : ℕ) → j < length members → MemberRanges p rows (getD members j nobody) = λ j h. member-facts p rows (idBefore members j) (getD members j nobody) (rules .plan) (rules .member j h) in
+    let head = plan-facts p rows plan .head in
+    let kept : (j : ℕ) → j < length members → MemberRanges p rows (getD members j nobody) = λ j h. member-facts p rows (idBefore members j) (getD members j nobody) plan (rules .member j h) in
     let small : (j : ℕ) → j < length members → SmallFigures (figures p rows (getD members j nobody)) = λ j h. figures-small p rows (getD members j nobody) (kept j h) in
     let value = total-small p rows (λ f. f .value) 7100000000 members (λ j h. small j h .value) in
     let cost = total-small p rows (λ f. f .cost) 7100000050 members (λ j h. small j h .cost) in

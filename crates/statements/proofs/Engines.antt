@@ -15,6 +15,8 @@ use Rattle.parts.specs.declared.Parts.{Parts}
 use Rattle.parts.specs.Parts.{figuresFrom}
 use Rattle.parts.proofs.PartLaws.{own-figures}
 use Rattle.walk.specs.Outcome.{Outcome, values, refusal, andThen}
+use Rattle.acceptance.proofs.ValuedLaws.{valued-is-accepted}
+use Rattle.walk.specs.Walk.{valuedPlan}
 use Rattle.walk.specs.Kept.{nobody, idBefore}
 use Rattle.walk.proofs.Accepted.{accepted-keeps}
 use Rattle.casefile.specs.Answers.{acceptingOf}
@@ -74,7 +76,8 @@ module _ (e : Engine) (g : GivesParts e) where
       then-same (acceptingOf case) _ _
       (λ c accepted.
       let rules = accepted-keeps case c accepted .1 in
-      ap (fitting room) (printed-same (c .plan) (c .rows) (c .members) (λ j h. member-facts (c .plan) (c .rows) (idBefore (c .members) j) _ (rules .plan) (rules .member j h)) (g .begins (c .plan) (c .rows) (rules .plan) (methodOf (c .plan .method)))))
+      let plan = valued-is-accepted (c .plan) (c .amends) (c .rows) (rules .plan) in
+      ap (fitting room) (printed-same (valuedPlan c) (c .rows) (c .members) (λ j h. member-facts (valuedPlan c) (c .rows) (idBefore (c .members) j) _ plan (rules .member j h)) (g .begins (valuedPlan c) (c .rows) plan (methodOf (c .plan .method)))))
 
 pub by-definition-gives : GivesParts by-definition
 by-definition-gives =

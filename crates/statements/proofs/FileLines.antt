@@ -6,26 +6,29 @@ use Prim.Native.Nat.{ℕ, zero, suc, _+_, _-_, _≤_, _<_}
 use native.Mathlib.Nat.{zero-add, suc-add}
 use native.Mathlib.Omega.{arith}
 use borrow.Author.Tests.{eqb-true, lt-leb, le-leb}
-use lib.Dec.{eqb, ltb, eqb·suc-zero}
+use lib.Dec.{eqb, leb, ltb, eqb·suc-zero}
 use lib.ListN.{length, getD, length-append}
 use Rattle.fields.specs.Text.{bytes}
 use Rattle.fields.specs.Split.{hasOf, uptoOf, pastOf, startsOf}
 use Rattle.fields.specs.Numbers.{amountOf}
 use Rattle.fields.specs.Values.{Values, found, misread, keyedOf}
 use Rattle.fields.proofs.SplitLaws.{off}
+use Rattle.plan.specs.declared.Amendment.{Amendment}
 use Rattle.plan.specs.declared.Member.{Member}
-use Rattle.rules.specs.Refusals.{tooLarge, wrongCount}
+use Rattle.rates.specs.Table.{ages}
+use Rattle.rules.specs.Refusals.{tooLarge, wrongCount, wrongAmendment}
+use Rattle.amendments.specs.Force.{amendmentFrom}
+use Rattle.amendments.specs.Judging.{mostAmendments, fieldRefusal}
 use Rattle.walk.specs.Outcome.{values, refusal}
-use Rattle.walk.specs.Lines.{Tail, listed, end, surplus, neither, listedMade, mostMembers, tailOf}
-use Rattle.walk.specs.Step.{Head, State, heading, table, people, ended, wrong, right, tailLine, verdictOf, step}
-use Rattle.walk.specs.Walk.{Case, caseOf, closed, start, walkFrom, walkOf}
+use Rattle.walk.specs.Lines.{begins, amendForm, rowForm, dueAge, Tail, listed, end, surplus, neither, listedMade, mostMembers, tailOf}
+use Rattle.walk.specs.Step.{Head, State, heading, amending, table, people, ended, wrong, right, withAmend, amendRefusal, amendLine, withRow, rowLine, tailLine, verdictOf, step}
+use Rattle.walk.specs.Walk.{Case, linesOf, restOf, caseOf, closed, folded, start, walkFrom, walkOf}
 use Rattle.walk.specs.Kept.{nobody}
 use Rattle.walk.proofs.OutcomeLaws.{no-values, values-one, then-values}
 use Rattle.walk.proofs.LineLaws.{from-line, from-end}
-use Rattle.walk.proofs.FoldLaws.{walk-on}
+use Rattle.walk.proofs.FoldLaws.{walk-on, Right, folded-keeps}
 use Rattle.walk.proofs.StepLaws.{Sized, line-sized, full-none}
 use Rattle.walk.proofs.Theorems.{start-sized}
-use Rattle.walk.proofs.Rests.{any-ahead}
 use Rattle.casefile.specs.Answers.{acceptingOf}
 use Rattle.statements.specs.LinesOf.{linesPast, lineAt, linesBefore, firstMember}
 
@@ -40,10 +43,31 @@ past-both zero n s = rw (zero-add n)
 past-both (suc m) n s = rw (suc-add m n) (past-both m n (pastOf 10 s))
 
 -- member j's line
-pub line-of-member : (j : ℕ) (s : List ℕ) → lineAt (firstMember + j) s ≡ uptoOf 10 (linesPast j (linesPast linesBefore s))
-line-of-member j s =
-    let next : firstMember + j ≡ suc (linesBefore + j) = omega arith in
-    rw next (line-past (linesBefore + j) s ∙ ap (uptoOf 10) (past-both linesBefore j s))
+pub line-of-member : (n j : ℕ) (s : List ℕ) → lineAt (firstMember n + j) s ≡ uptoOf 10 (linesPast j (linesPast (linesBefore n) s))
+line-of-member n j s =
+    let next : firstMember n + j ≡ suc (linesBefore n + j) = omega arith in
+    rw next (line-past (linesBefore n + j) s ∙ ap (uptoOf 10) (past-both (linesBefore n) j s))
+
+-- ---- what the state after a line rests on: not on the line after it
+next-ahead : (state : State) (line a b : List ℕ) {r : ℕ} {next : State} → verdictOf state line a ≡ right r next → (q : ℕ) × (verdictOf state line b ≡ right q next)
+unfolding verdictOf
+next-ahead (heading terms) line a b {r} e = (r, e)
+next-ahead (amending h) line a b {r} {next} e = pick (begins line) (amendForm line) e
+  where
+    listed-on : (full : Bool) (v : Amendment) → cond full (wrong (fieldRefusal v) wrongAmendment) (right (amendRefusal h a v) (amending (withAmend h v))) ≡ right r next → (q : ℕ) × (cond full (wrong (fieldRefusal v) wrongAmendment) (right (amendRefusal h b v) (amending (withAmend h v))) ≡ right q next)
+    listed-on true v e = let z : _≡_ {A = ℕ} 0 1 = cc in absurd (omega arith)
+    listed-on false v e = let is : amending (withAmend h v) ≡ next = cc in (amendRefusal h b v, ap (right (amendRefusal h b v)) is)
+
+    on : (x : Values) → amendLine h a x ≡ right r next → (q : ℕ) × (amendLine h b x ≡ right q next)
+    on misread e = let z : _≡_ {A = ℕ} 0 1 = cc in absurd (omega arith)
+    on (found vs) e = listed-on (leb mostAmendments (length (h .amends))) (amendmentFrom vs) e
+
+    pick : (t : Bool) (x : Values) → cond t (amendLine h a x) (rowLine h (rowForm (dueAge (h .rows)) line)) ≡ right r next → (q : ℕ) × (cond t (amendLine h b x) (rowLine h (rowForm (dueAge (h .rows)) line)) ≡ right q next)
+    pick true x e = on x e
+    pick false x e = (r, e)
+next-ahead (table h) line a b {r} e = (r, e)
+next-ahead (people h l) line a b {r} e = (r, e)
+next-ahead (ended h l) line a b {r} e = (r, e)
 
 -- ---- a walk that gives values
 -- where a line is due it is there, and the walk goes on after it
@@ -60,8 +84,9 @@ goes k state s c due e = pick (hasOf 10 s) refl
     pick true h =
         let a = uptoOf 10 (pastOf 10 s) in
         let f = then-values (step true k state (uptoOf 10 s) a) _ (sym (from-line true k state s h) ∙ e) in
-        let p = walk-on true k state (uptoOf 10 s) [] (any-ahead true k state (uptoOf 10 s) [] a ∙ f .1) in
-        record { range = p .0; next = f .0; line = p .1; on = f .2 }
+        let p = walk-on true k state (uptoOf 10 s) a (f .1) in
+        let q = next-ahead state (uptoOf 10 s) a [] (p .1) in
+        record { range = q .0; next = f .0; line = q .1; on = f .2 }
     pick false h = absurd (due (sym (from-end true k state s h) ∙ e))
 
 -- after the end nothing is left
@@ -171,28 +196,87 @@ pub record Alike (s s' : List ℕ) (c c' : Case) : Type 0 where
   pub own : Lined c head [] s
   pub other : Lined c' head [] s'
 
-not-yet : (k : ℕ) (s : List ℕ) (state : State) (c : Case) → Sized k state → k ≤ linesBefore → closed k s state ≡ values c → ⊥
-not-yet k s (heading h) c sized low e = no-values e
-not-yet k s (table h) c sized low e = no-values e
-not-yet k s (people h l) c sized low e = no-values e
-not-yet k s (ended h l) c sized low e = omega (arith, sized .0)
+-- after the amendments, those of the case are those so far
+abbrev pub Late : List Amendment → State → Type 0
+Late l (heading terms) = ⊥
+Late l (amending h) = ⊥
+Late l (table h) = h .amends ≡ l
+Late l (people h members) = h .amends ≡ l
+Late l (ended h members) = h .amends ≡ l
 
-module _ (c c' : Case) where
-  from-members : (k : ℕ) (state : State) (s s' : List ℕ) → Sized k state → k ≡ linesBefore + 1 → walkFrom true k state s ≡ values c → walkFrom true k state s' ≡ values c' → Alike s s' c c'
-  from-members k (heading h) s s' sized at e e' = absurd (omega (arith, sized .0, sized .1))
-  from-members k (table h) s s' sized at e e' = absurd (omega (arith, sized .0, sized .2))
+late-row : (l : List Amendment) (h : Head) (b : Bool) → h .amends ≡ l → Late l (cond b (people h []) (table h))
+late-row l h true e = e
+late-row l h false e = e
+
+late-line : (l : List Amendment) (k : ℕ) (state : State) (line ahead : List ℕ) → Late l state → Right (λ r next. Late l next) (verdictOf state line ahead)
+unfolding verdictOf
+late-line l k (heading terms) line ahead late = absurd late
+late-line l k (amending h) line ahead late = absurd late
+late-line l k (table h) line ahead late = pick (rowForm (dueAge (h .rows)) line)
+  where
+    pick : (x : Values) → Right (λ r next. Late l next) (rowLine h x)
+    pick misread = tt
+    pick (found row) = late-row l (withRow h row) (eqb (length (h .rows ++ row ∷ [])) ages) late
+late-line l k (people h members) line ahead late = pick (tailOf (leb mostMembers (length members)) line)
+  where
+    counted : (b : Bool) → Right (λ r next. Late l next) (cond b (right 0 (ended h members)) (wrong 0 wrongCount))
+    counted true = late
+    counted false = tt
+
+    pick : (x : Tail) → Right (λ r next. Late l next) (tailLine h members x)
+    pick (listed m) = late
+    pick (end n) = counted (eqb n (length members))
+    pick surplus = tt
+    pick neither = tt
+late-line l k (ended h members) line ahead late = tt
+
+pub late-case : (l : List Amendment) (k : ℕ) (state : State) (s : List ℕ) (c : Case) → Late l state → walkFrom true k state s ≡ values c → c .amends ≡ l
+unfolding walkFrom
+late-case l k state s c late e =
+    let f = then-values (folded true (restOf s) k state (linesOf s)) _ e in
+    last _ (f .0) (folded-keeps (λ k state. Late l state) (late-line l) true (restOf s) k state (linesOf s) (f .1) late) (f .2)
+  where
+    whole : (h : Head) (members : List Member) (k : ℕ) (b : Bool) → cond b (values (caseOf h members)) (refusal 3 k) ≡ values c → c .amends ≡ h .amends
+    whole h members k true e = ap (λ (c : Case). c .amends) (sym (values-one e))
+    whole h members k false e = no-values e
+
+    last : (k : ℕ) (state : State) → Late l state → closed k (restOf s) state ≡ values c → c .amends ≡ l
+    last k (heading terms) late e = absurd late
+    last k (amending h) late e = absurd late
+    last k (table h) late e = no-values e
+    last k (people h members) late e = no-values e
+    last k (ended h members) late e = whole h members k (eqb (length (restOf s)) 0) e ∙ late
+
+-- up to the last row a line is due, in this file and in any other
+not-yet : (n k : ℕ) (s : List ℕ) (state : State) (c : Case) → length (c .amends) ≡ n → Sized k state → k ≤ linesBefore n → walkFrom true k state s ≡ values c → (s' : List ℕ) (c' : Case) → closed k s' state ≡ values c' → ⊥
+not-yet n k s (heading terms) c many sized low on s' c' e = no-values e
+not-yet n k s (amending h) c many sized low on s' c' e = no-values e
+not-yet n k s (table h) c many sized low on s' c' e = no-values e
+not-yet n k s (people h l) c many sized low on s' c' e = no-values e
+not-yet n k s (ended h l) c many sized low on s' c' e =
+    omega (arith, sized .0, ap length (late-case (h .amends) k (ended h l) s c refl on))
+
+module _ (n : ℕ) (c c' : Case) (many : length (c .amends) ≡ n) where
+  from-members : (k : ℕ) (state : State) (s s' : List ℕ) → Sized k state → k ≡ linesBefore n + 1 → walkFrom true k state s ≡ values c → walkFrom true k state s' ≡ values c' → Alike s s' c c'
+  from-members k (heading terms) s s' sized at e e' = absurd (omega (arith, sized .0, sized .1))
+  from-members k (amending h) s s' sized at e e' = absurd (omega (arith, sized .0, sized .2))
+  from-members k (table h) s s' sized at e e' =
+      absurd (omega (arith, sized .0, sized .3, ap length (late-case (h .amends) k (table h) s c refl e)))
   from-members k (people h []) s s' sized at e e' = record { head = h; own = members-lined mostMembers k c h [] s refl e; other = members-lined mostMembers k c' h [] s' refl e' }
-  from-members k (people h (m ∷ l)) s s' sized at e e' = absurd (omega (arith, sized .0))
-  from-members k (ended h l) s s' sized at e e' = absurd (omega (arith, sized .0))
+  from-members k (people h (m ∷ l)) s s' sized at e e' =
+      absurd (omega (arith, sized .0, ap length (late-case (h .amends) k (people h (m ∷ l)) s c refl e)))
+  from-members k (ended h l) s s' sized at e e' =
+      absurd (omega (arith, sized .0, ap length (late-case (h .amends) k (ended h l) s c refl e)))
 
-  head-same : (n k : ℕ) (state : State) (s s' : List ℕ) → Sized k state → k + n ≡ linesBefore + 1 → Agree n s s' → walkFrom true k state s ≡ values c → walkFrom true k state s' ≡ values c' → Alike (linesPast n s) (linesPast n s') c c'
+  head-same : (m k : ℕ) (state : State) (s s' : List ℕ) → Sized k state → k + m ≡ linesBefore n + 1 → Agree m s s' → walkFrom true k state s ≡ values c → walkFrom true k state s' ≡ values c' → Alike (linesPast m s) (linesPast m s') c c'
   unfolding linesPast
   head-same zero k state s s' sized at same e e' = from-members k state s s' sized (omega arith) e e'
-  head-same (suc n) k state s s' sized at same e e' =
-      let g = goes k state s c (not-yet k s state c sized (omega arith)) e in
-      let g' = goes k state s' c' (not-yet k s' state c' sized (omega arith)) e' in
+  head-same (suc m) k state s s' sized at same e e' =
+      let due = not-yet n k s state c many sized (omega arith) e in
+      let g = goes k state s c (due s c) e in
+      let g' = goes k state s' c' (due s' c') e' in
       let next : g' .next ≡ g .next = cc (g .line, g' .line, same 0 (omega arith)) in
-      head-same n (k + 1) (g .next) (pastOf 10 s) (pastOf 10 s') (rw (g .line) at (line-sized k state (uptoOf 10 s) [] sized)) (omega arith) (λ j h. same (suc j) (omega arith)) (g .on) (rw next at (g' .on))
+      head-same m (k + 1) (g .next) (pastOf 10 s) (pastOf 10 s') (rw (g .line) at (line-sized k state (uptoOf 10 s) [] sized)) (omega arith) (λ j h. same (suc j) (omega arith)) (g .on) (rw next at (g' .on))
 
 from-start : (s : List ℕ) (c : Case) → acceptingOf s ≡ values c → walkFrom true 1 start s ≡ values c
 unfolding acceptingOf walkOf
@@ -202,5 +286,5 @@ from-start s c = pick (ltb 65536 (length s))
     pick true e = no-values e
     pick false e = e
 
-pub files-lined : (s s' : List ℕ) (c c' : Case) → Agree linesBefore s s' → acceptingOf s ≡ values c → acceptingOf s' ≡ values c' → Alike (linesPast linesBefore s) (linesPast linesBefore s') c c'
-files-lined s s' c c' same e e' = head-same c c' linesBefore 1 start s s' start-sized (omega arith) same (from-start s c e) (from-start s' c' e')
+pub files-lined : (n : ℕ) (s s' : List ℕ) (c c' : Case) → length (c .amends) ≡ n → Agree (linesBefore n) s s' → acceptingOf s ≡ values c → acceptingOf s' ≡ values c' → Alike (linesPast (linesBefore n) s) (linesPast (linesBefore n) s') c c'
+files-lined n s s' c c' many same e e' = head-same n c c' many (linesBefore n) 1 start s s' start-sized (omega arith) same (from-start s c e) (from-start s' c' e')

@@ -6,5 +6,6 @@ pub mod LineEnds
 pub mod LoneMember
 pub mod ReadBack
 pub mod AmountSizes
+pub mod NoAdditions
 pub mod Statements
 pub mod Engines

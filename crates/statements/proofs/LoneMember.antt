@@ -8,9 +8,11 @@ use borrow.Author.Tests.{lt-ltb}
 use lib.Dec.{ltb}
 use lib.ListN.{drop}
 use Rattle.plan.specs.declared.Plan.{Plan}
+use Rattle.plan.specs.declared.Amendment.{Amendment}
 use Rattle.plan.specs.declared.Member.{Member}
+use Rattle.amendments.specs.Force.{asValued}
 use Rattle.rules.specs.Rules.{unless, firstOf, between}
-use Rattle.acceptance.specs.Acceptance.{planRefusal, fieldRules, benefitRules, memberRefusal, lineRefusal, loneRefusal}
+use Rattle.acceptance.specs.Acceptance.{amendedRefusal, fieldRules, benefitRules, memberRefusal, lineRefusal, loneRefusal}
 use Rattle.acceptance.proofs.LoneLaws.{own-alone}
 use Rattle.rules.proofs.RuleLaws.{all-kept}
 use Rattle.rules.proofs.RuleLaws.{first-passes, first-alone}
@@ -35,8 +37,11 @@ module _ (p : Plan) (rows : List (List ℕ)) (before : ℕ) (m : Member) where
   unfolding memberRefusal fieldRules
   no-id-before = first-other _ _ (drop 1 (fieldRules p before m) ++ benefitRules p rows m) (lone-id before (m .id))
 
-  pub accepted-alone : planRefusal p rows ≡ 0 → memberRefusal p rows before m ≡ 0 → loneRefusal p rows m ≡ 0
-  unfolding loneRefusal
-  accepted-alone plan member =
-      let line = lineRefusal p rows 0 0 m in
-      first-passes (planRefusal p rows) (line ∷ []) plan ∙ first-alone line ∙ own-alone p rows 0 m ∙ no-id-before member
+  lone-line : memberRefusal p rows before m ≡ 0 → lineRefusal p rows 0 0 m ≡ 0
+  lone-line member = own-alone p rows 0 m ∙ no-id-before member
+
+pub accepted-alone : (p : Plan) (l : List Amendment) (rows : List (List ℕ)) (before : ℕ) (m : Member) → amendedRefusal p l rows ≡ 0 → memberRefusal (asValued p l) rows before m ≡ 0 → loneRefusal p l rows m ≡ 0
+unfolding loneRefusal
+accepted-alone p l rows before m plan member =
+    let line = lineRefusal (asValued p l) rows 0 0 m in
+    first-passes (amendedRefusal p l rows) (line ∷ []) plan ∙ first-alone line ∙ lone-line (asValued p l) rows before m member

@@ -11,7 +11,10 @@ use Rattle.costs.specs.Demand3.{WithinLimits}
 use Rattle.costs.specs.Valuation.{methodOf, settingOf, figuresAt, figures}
 use Rattle.costs.proofs.Answers.{valued, limited, demand-3-forms, demand-3-sharp-limits}
 use Rattle.walk.specs.Outcome.{values, refusal}
-use Rattle.walk.specs.Walk.{Case}
+use Rattle.walk.specs.Walk.{Case, valuedPlan}
+use Rattle.walk.specs.Lines.{listed, tailOf}
+use Rattle.amendments.specs.Force.{asValued}
+use Rattle.acceptance.proofs.ValuedLaws.{valued-is-accepted}
 use Rattle.walk.specs.Kept.{nobody, idBefore}
 use Rattle.walk.proofs.OutcomeLaws.{no-values, values-one, then-values}
 use Rattle.walk.proofs.Accepted.{accepted-keeps}
@@ -20,7 +23,7 @@ use Rattle.totals.specs.Totals.{total, unfunded, supplemental}
 use Rattle.report.specs.Lines.{memberLine, planLines, printed}
 use Rattle.fitting.specs.Fitting.{fitting}
 use Rattle.valuation.specs.Answers.{valuedOf}
-use Rattle.statements.specs.LinesOf.{linesPast, lineAt, linesBefore}
+use Rattle.statements.specs.LinesOf.{linesPast, lineAt, linesBefore, firstMember}
 use Rattle.statements.specs.Statements.{Every-Member, Members-Are-Lines, Plan-Lines, Independence, Totals-Are-Sums, Totals-Accuracy, supplemental*, Supplemental-Accuracy}
 use Rattle.statements.proofs.LineEnds.{member-is-line, member-text, members-done}
 use Rattle.statements.proofs.FileLines.{Agree, files-lined, line-past, line-of-member}
@@ -34,29 +37,29 @@ fits-whole : (b : Bool) (lines : List ℕ) {out : List ℕ} → cond b (values l
 fits-whole true lines e = sym (values-one e)
 fits-whole false lines e = no-values e
 
-printed-of : (s : List ℕ) (room : ℕ) (c : Case) {out : List ℕ} → acceptingOf s ≡ values c → valuedOf room s ≡ values out → out ≡ printed (c .plan) (c .rows) (c .members)
+printed-of : (s : List ℕ) (room : ℕ) (c : Case) {out : List ℕ} → acceptingOf s ≡ values c → valuedOf room s ≡ values out → out ≡ printed (valuedPlan c) (c .rows) (c .members)
 unfolding valuedOf fitting
 printed-of s room c accepted e =
-    let lines = printed (c .plan) (c .rows) (c .members) in
+    let lines = printed (valuedPlan c) (c .rows) (c .members) in
     fits-whole (leb (length lines) room) lines (rw accepted at e)
 
 -- the text of member j's line
 module _ (s : List ℕ) (room : ℕ) (c : Case) {out : List ℕ} (accepted : acceptingOf s ≡ values c) (fits : valuedOf room s ≡ values out) (j : ℕ) (there : j < length (c .members)) where
-  own-text : lineAt (1 + j) out ≡ member-is-line (c .plan) (c .rows) (getD (c .members) j nobody) .text
+  own-text : lineAt (1 + j) out ≡ member-is-line (valuedPlan c) (c .rows) (getD (c .members) j nobody) .text
   unfolding lineAt printed
   own-text =
       let past : 1 + j - 1 ≡ j = omega arith in
-      rw (past, printed-of s room c accepted fits) (member-text (c .plan) (c .rows) (c .members) _ j there)
+      rw (past, printed-of s room c accepted fits) (member-text (valuedPlan c) (c .rows) (c .members) _ j there)
 
 -- each member's figures lie within its limits
-member-close : (s : List ℕ) (c : Case) → acceptingOf s ≡ values c → (j : ℕ) → j < length (c .members) → WithinLimits (settingOf (c .plan) (c .rows) (getD (c .members) j nobody)) (methodOf (c .plan .method)) (getD (c .members) j nobody .age)
+member-close : (s : List ℕ) (c : Case) → acceptingOf s ≡ values c → (j : ℕ) → j < length (c .members) → WithinLimits (settingOf (valuedPlan c) (c .rows) (getD (c .members) j nobody)) (methodOf (c .plan .method)) (getD (c .members) j nobody .age)
 unfolding acceptingOf
 member-close s c accepted j there =
     let m = getD (c .members) j nobody in
     let rules = accepted-keeps s c accepted .1 in
     let kept = rules .member j there in
-    let facts = member-facts (c .plan) (c .rows) (idBefore (c .members) j) m (rules .plan) kept in
-    demand-3-sharp-limits (c .plan) (c .rows) (idBefore (c .members) j) m (record { plan = rules .plan; member = kept }) (methodOf (c .plan .method)) (m .age) (omega (arith, facts)) (omega (arith, facts))
+    let facts = member-facts (valuedPlan c) (c .rows) (idBefore (c .members) j) m (valued-is-accepted (c .plan) (c .amends) (c .rows) (rules .plan)) kept in
+    demand-3-sharp-limits (c .plan) (c .amends) (c .rows) (idBefore (c .members) j) m (record { plan = rules .plan; member = kept }) (methodOf (c .plan .method)) (m .age) (omega (arith, facts)) (omega (arith, facts))
 
 pub every-member : Every-Member
 unfolding memberLine acceptingOf
@@ -66,27 +69,28 @@ every-member s out room c accepted fits j there =
     let rules = accepted-keeps s c accepted .1 in
     let kept = rules .member j there in
     record {
-      shown = ap (λ (text : List ℕ). text ++ (10 ∷ [])) (own-text s room c accepted fits j there) ∙ sym (member-is-line (c .plan) (c .rows) m .is);
-      alike = sym (valued (c .plan) (c .rows) m (accepted-alone (c .plan) (c .rows) before m (rules .plan) kept) refl);
-      limited = limited (c .plan) (c .rows) m (member-facts (c .plan) (c .rows) before m (rules .plan) kept) refl;
+      shown = ap (λ (text : List ℕ). text ++ (10 ∷ [])) (own-text s room c accepted fits j there) ∙ sym (member-is-line (valuedPlan c) (c .rows) m .is);
+      alike = sym (valued (c .plan) (c .amends) (c .rows) m (accepted-alone (c .plan) (c .amends) (c .rows) before m (rules .plan) kept) refl);
+      limited = limited (valuedPlan c) (c .rows) m (member-facts (valuedPlan c) (c .rows) before m (valued-is-accepted (c .plan) (c .amends) (c .rows) (rules .plan)) kept) refl;
       close = member-close s c accepted j there;
-      forms = demand-3-forms (c .plan) (c .rows) before m (record { plan = rules .plan; member = kept });
+      forms = demand-3-forms (c .plan) (c .amends) (c .rows) before m (record { plan = rules .plan; member = kept });
     }
 
 pub members-are-lines : Members-Are-Lines
 members-are-lines s c accepted =
-    let lined = files-lined s s c c (λ j h. refl) accepted accepted .own in
+    let n = length (c .amends) in
+    let lined = files-lined n s s c c refl (λ j h. refl) accepted accepted .own in
     let own : lined .own ≡ c .members = sym (ap (λ (c : Case). c .members) (lined .is)) in
     record {
-      all = λ j starts. rw own at (lined .all j (rw (line-of-member j s) at starts));
-      each = λ j there. rw (line-of-member j s, ← own) (lined .each j (rw own there));
-      counted = rw (line-of-member (length (c .members)) s) (rw own at (lined .counted));
+      all = λ j starts. rw own at (lined .all j (rw (line-of-member n j s) at starts));
+      each = λ j there. rw (line-of-member n j s, ← own) (lined .each j (rw own there));
+      counted = rw (line-of-member n (length (c .members)) s) (rw own at (lined .counted));
     }
 
 pub plan-lines : Plan-Lines
 unfolding printed planLines
 plan-lines s out room c accepted fits =
-    ap (linesPast (length (c .members))) (printed-of s room c accepted fits) ∙ members-done (c .plan) (c .rows) (c .members) _
+    ap (linesPast (length (c .members))) (printed-of s room c accepted fits) ∙ members-done (valuedPlan c) (c .rows) (c .members) _
 
 -- ---- independence
 case-of : (s : List ℕ) (room : ℕ) {out : List ℕ} → valuedOf room s ≡ values out → (c : Case) × (acceptingOf s ≡ values c)
@@ -94,22 +98,25 @@ unfolding valuedOf
 case-of s room e = let f = then-values (acceptingOf s) _ e in (f .0, f .1)
 
 pub independence : Independence
-independence s s' out out' room room' j j' fits fits' agree =
-    let a = case-of s room fits in
+independence s s' out out' room room' j j' c accepted fits fits' agree =
     let a' = case-of s' room' fits' in
-    let c = a .0 in
     let c' = a' .0 in
-    let before : Agree linesBefore s s' = λ n h. sym (line-past n s) ∙ agree .before (suc n) (omega arith) (omega arith) ∙ line-past n s' in
-    let lines = members-are-lines s c (a .1) in
+    let n = length (c .amends) in
+    let before : Agree (linesBefore n) s s' = λ n h. sym (line-past n s) ∙ agree .before (suc n) (omega arith) (omega arith) ∙ line-past n s' in
+    let f = files-lined n s s' c c' refl before accepted (a' .1) in
+    let amends : c .amends ≡ c' .amends = cc (f .own .is, f .other .is) in
+    let many : length (c' .amends) ≡ n = sym (ap length amends) in
+    let lines = members-are-lines s c accepted in
     let lines' = members-are-lines s' c' (a' .1) in
     let there = lines .all j (agree .member) in
-    let there' = lines' .all j' (rw (agree .same) at (agree .member)) in
-    let member : getD (c .members) j nobody ≡ getD (c' .members) j' nobody = cc (lines .each j there, lines' .each j' there', agree .same) in
-    let f = files-lined s s' c c' before (a .1) (a' .1) in
+    let there' = lines' .all j' (rw many (rw (agree .same) at (agree .member))) in
+    let here' : tailOf false (lineAt (firstMember n + j') s') ≡ listed (getD (c' .members) j' nobody) = rw many at (lines' .each j' there') in
+    let member : getD (c .members) j nobody ≡ getD (c' .members) j' nobody = cc (lines .each j there, here', agree .same) in
     let plan : c .plan ≡ c' .plan = cc (f .own .is, f .other .is) in
+    let valued : valuedPlan c ≡ valuedPlan c' = λ i. asValued (plan i) (amends i) in
     let rows : c .rows ≡ c' .rows = cc (f .own .is, f .other .is) in
-    own-text s room c (a .1) fits j there
-    ∙ (λ i. member-is-line (plan i) (rows i) (member i) .text)
+    own-text s room c accepted fits j there
+    ∙ (λ i. member-is-line (valued i) (rows i) (member i) .text)
     ∙ sym (own-text s' room' c' (a' .1) fits' j' there')
 
 -- ---- totals
@@ -120,7 +127,7 @@ totals-are-sums p rows figure = record { none = refl; one = total-one p rows fig
 pub totals-accuracy : Totals-Accuracy
 unfolding figures figuresAt
 totals-accuracy s c accepted =
-    let p = c .plan in
+    let p = valuedPlan c in
     let rows = c .rows in
     let members = c .members in
     let close = member-close s c accepted in

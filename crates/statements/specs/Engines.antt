@@ -16,6 +16,7 @@ use Rattle.costs.specs.Valuation.{methodOf, settingOf}
 use Rattle.parts.specs.declared.Parts.{Parts}
 use Rattle.parts.specs.Parts.{partsAt, figuresFrom}
 use Rattle.walk.specs.Outcome.{Outcome, andThen}
+use Rattle.walk.specs.Walk.{valuedPlan}
 use Rattle.casefile.specs.Answers.{acceptingOf}
 use Rattle.totals.specs.declared.Totals.{Totals}
 use Rattle.report.specs.Lines.{figuresLine, planLines}
@@ -95,7 +96,7 @@ printedOf p members worked =
 -- rule 12.4, a case file: its first refusal, 30 after all others; else the lines
 unfoldable pub valuedBy : Engine → (room : ℕ) → List ℕ → Outcome (List ℕ)
 valuedBy e room case =
-    andThen (acceptingOf case) (λ c. fitting room (printedOf (c .plan) (c .members) (figuresBy e (c .plan) (c .rows) (c .members))))
+    andThen (acceptingOf case) (λ c. fitting room (printedOf (valuedPlan c) (c .members) (figuresBy e (valuedPlan c) (c .rows) (c .members))))
 
 -- ---- the theorem: figures are a function of the parts, and both engines give the parts
 pub record SameAnswers (e e' : Engine) (g : GivesParts e) (g' : GivesParts e') : Type 0 where

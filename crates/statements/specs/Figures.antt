@@ -15,11 +15,13 @@ use Rattle.plan.specs.declared.Plan.{Plan}
 use Rattle.plan.specs.Weights.{summed}
 use Rattle.plan.specs.Benefit.{formulaOf, pay, pays, exactBenefit, B}
 use Rattle.rules.specs.Heading.{headRules}
-use Rattle.rules.specs.Table.{rowsRefusal, rowRules}
-use Rattle.acceptance.specs.Acceptance.{loneRefusal, planRefusal, lineRefusal, memberRefusal, fieldRules, benefitRules}
+use Rattle.row_rules.specs.Table.{rowsRefusal, rowRules}
+use Rattle.amendments.specs.Force.{listed, stands, inForceAfter, additions, asValued}
+use Rattle.amendments.specs.Judging.{amendmentRules, unitRefusal, eachRefusal, amendmentsRefusal}
+use Rattle.acceptance.specs.Acceptance.{loneRefusal, amendedRefusal, planRefusal, lineRefusal, memberRefusal, fieldRules, benefitRules}
 use Rattle.costs.specs.Costs.{PV, cost, N, L}
 use Rattle.costs.specs.Valuation.{methodOf, figuresAt, figures}
-use Rattle.costs.specs.Figures.{short-plan, short-member, member-figures}
+use Rattle.costs.specs.Figures.{short-plan, short-member, short-list, member-figures}
 use Rattle.parts.specs.Parts.{partsAt, figuresFrom}
 use Rattle.fields.specs.Text.{bytes}
 use Rattle.printing.specs.Amounts.{digits, width, wholeNumber, amount, signedAmount}
@@ -43,7 +45,7 @@ proved-set =
     ∷ []
 
 pub proved-set-stands : all-are proved-set ≡ true
-unfolding proved-set total unfunded supplemental member-figures factors rates short able serves leaves stays staying nearest nearestℤ carried step A pension G T Z C _over_ whole _⊕_ _⊗_ inverse summed formulaOf pay pays exactBenefit B PV cost N L loneRefusal planRefusal headRules rowsRefusal rowRules lineRefusal memberRefusal fieldRules benefitRules
+unfolding proved-set total unfunded supplemental member-figures factors rates short able serves leaves stays staying nearest nearestℤ carried step A pension G T Z C _over_ whole _⊕_ _⊗_ inverse summed formulaOf pay pays exactBenefit B PV cost N L loneRefusal amendedRefusal listed stands inForceAfter additions amendmentRules unitRefusal eachRefusal amendmentsRefusal planRefusal headRules rowsRefusal rowRules lineRefusal memberRefusal fieldRules benefitRules
 proved-set-stands = refl
 
 -- rule 14.2: the short case, as it is printed
@@ -55,3 +57,8 @@ short-lines = refl
 pub short-lines-by : printedOf short-plan (short-member ∷ []) (figuresBy by-definition short-plan short (short-member ∷ [])) ≡ printed short-plan short (short-member ∷ [])
 unfolding printedOf linesOf totalOf figuresFromKept figuresFrom partsAt printed memberLines memberLine total unfunded supplemental figures figuresAt methodOf formulaOf exactBenefit B PV cost N L short able serves stays staying nearest nearestℤ carried step A pension G T C _over_ whole
 short-lines-by = refl
+
+-- rule 14.26: the short case with three amendments, as it is printed
+pub amended-lines : printed (asValued short-plan short-list) short (short-member ∷ []) ≡ bytes "member=7,205.00,186.36,88.74,97.62\ntotal=1,186.36,88.74,97.62\nunfunded=77.62\nsupplemental=40.66\n"
+unfolding listed stands inForceAfter additions printed memberLines memberLine planLines totalLine figuresLine amountsLine signedLine fields signedAmount amount wholeNumber width digits total unfunded supplemental figures figuresAt methodOf formulaOf exactBenefit B PV cost N L short able serves stays staying nearest nearestℤ carried step A pension G T C _over_ whole
+amended-lines = refl

@@ -15,10 +15,10 @@ linesPast (suc n) s = linesPast n (pastOf 10 s)
 unfoldable pub lineAt : ℕ → List ℕ → List ℕ
 lineAt n s = uptoOf 10 (linesPast (n - 1) s)
 
--- the lines of a case file before the members: a line for each term, and a row for each age
-abbrev pub linesBefore : ℕ
-linesBefore = length termForms + ages
+-- the lines of a case file before the members: a line for each term, one for each of n amendments, and a row for each age
+abbrev pub linesBefore : (n : ℕ) → ℕ
+linesBefore n = length termForms + n + ages
 
 -- the line of the first member
-abbrev pub firstMember : ℕ
-firstMember = linesBefore + 1
+abbrev pub firstMember : (n : ℕ) → ℕ
+firstMember n = linesBefore n + 1

@@ -10,8 +10,11 @@ use Rattle.fractions.specs.Fraction.{Fraction, integer, _⊙_, Apart}
 use Rattle.factors.specs.Factors.{S, C*}
 use Rattle.factors.specs.Accuracy.{Within}
 use Rattle.plan.specs.declared.Plan.{Plan}
+use Rattle.plan.specs.declared.Amendment.{Amendment}
 use Rattle.plan.specs.declared.Member.{Member}
 use Rattle.plan.specs.declared.Method.{Method}
+use Rattle.amendments.specs.Force.{inForce, additions}
+use Rattle.amendments.specs.Judging.{amendmentsRefusal}
 use Rattle.acceptance.specs.Acceptance.{planRefusal}
 use Rattle.costs.specs.declared.Figures.{Figures}
 use Rattle.costs.specs.declared.Valuation.the-variants.{Valued}
@@ -19,33 +22,35 @@ use Rattle.costs.specs.Costs.{PV*, N*, L*}
 use Rattle.costs.specs.Demand3.{FormsAgree, V-limit, N-limit, L-limit, WithinLimits}
 use Rattle.costs.specs.Valuation.{methodOf, settingOf, figures, valuation, Limited}
 use Rattle.fields.specs.Text.{bytes}
-use Rattle.fields.specs.Split.{startsOf}
+use Rattle.fields.specs.Split.{uptoOf, startsOf}
 use Rattle.fields.specs.Numbers.{value, wholeOf, amountOf}
-use Rattle.walk.specs.Outcome.{values}
-use Rattle.walk.specs.Lines.{listed, end, tailOf}
-use Rattle.walk.specs.Walk.{Case}
+use Rattle.walk.specs.Outcome.{values, andThen}
+use Rattle.walk.specs.Lines.{begins, listed, end, tailOf}
+use Rattle.walk.specs.Step.{headed, amending}
+use Rattle.walk.specs.Walk.{Case, valuedPlan, walkFrom}
 use Rattle.walk.specs.Kept.{nobody}
 use Rattle.casefile.specs.Answers.{acceptingOf}
 use Rattle.printing.specs.Amounts.{amount, wholeNumber}
 use Rattle.printing.specs.Lines.{signedLine}
 use Rattle.totals.specs.Totals.{total, total*, totals, unfunded, supplemental}
-use Rattle.report.specs.Lines.{figuresLine, totalLine}
+use Rattle.report.specs.Lines.{figuresLine, totalLine, printed}
+use Rattle.fitting.specs.Fitting.{fitting}
 use Rattle.valuation.specs.Answers.{valuedOf}
 use Rattle.statements.specs.LinesOf.{linesPast, lineAt, firstMember}
 
 -- ---- an accepted file whose lines fit the buffer
 -- what holds of a member m and its printed line: demands 2 and 3
 pub record MemberPrinted (c : Case) (m : Member) (line : List ℕ) : Type 0 where
-  -- rule 13.2: the line shows its id and its figures
-  pub shown : line ++ (10 ∷ []) ≡ figuresLine (m .id) (figures (c .plan) (c .rows) m)
+  -- rule 13.2: the line shows its id and its figures, under the plan as it is valued (rule 2.13)
+  pub shown : line ++ (10 ∷ []) ≡ figuresLine (m .id) (figures (valuedPlan c) (c .rows) m)
   -- rule 9.11, the same figures as plain values: what value_member answers
-  pub alike : valuation (c .plan) (c .rows) m ≡ Valued (figures (c .plan) (c .rows) m)
+  pub alike : valuation (c .plan) (c .amends) (c .rows) m ≡ Valued (figures (valuedPlan c) (c .rows) m)
   -- rule 10.9: N and L lie within 15 cents of their exact fractions, N of CP within 15 × W(x) / W(y)
-  pub limited : Limited (c .plan) (c .rows) m (Valued (figures (c .plan) (c .rows) m))
+  pub limited : Limited (valuedPlan c) (c .rows) m (Valued (figures (valuedPlan c) (c .rows) m))
   -- the limits by the benefit, which are sharper, and V's
-  pub close : WithinLimits (settingOf (c .plan) (c .rows) m) (methodOf (c .plan .method)) (m .age)
+  pub close : WithinLimits (settingOf (valuedPlan c) (c .rows) m) (methodOf (c .plan .method)) (m .age)
   -- rule 10.8: the two forms of the liability are equal fractions, at each age of the member and by each method
-  pub forms : (method : Method) (k : ℕ) → m .entry ≤ k → k ≤ c .plan .retire → FormsAgree (settingOf (c .plan) (c .rows) m) method k
+  pub forms : (method : Method) (k : ℕ) → m .entry ≤ k → k ≤ c .plan .retire → FormsAgree (settingOf (valuedPlan c) (c .rows) m) method k
 
 -- rule 13.2, of every member, in its place: the members' lines stand first
 abbrev pub Every-Member : Type 0
@@ -57,11 +62,11 @@ Every-Member =
 -- no fewer
 pub record MembersStand (c : Case) (s : List ℕ) : Type 0 where
   -- a line that begins with member= is a member's: none is lost
-  pub all : (j : ℕ) → startsOf (bytes "member=") (lineAt (firstMember + j) s) ≡ true → j < length (c .members)
+  pub all : (j : ℕ) → startsOf (bytes "member=") (lineAt (firstMember (length (c .amends)) + j) s) ≡ true → j < length (c .members)
   -- member j stands j lines after the first: none is invented
-  pub each : (j : ℕ) → j < length (c .members) → tailOf false (lineAt (firstMember + j) s) ≡ listed (getD (c .members) j nobody)
+  pub each : (j : ℕ) → j < length (c .members) → tailOf false (lineAt (firstMember (length (c .amends)) + j) s) ≡ listed (getD (c .members) j nobody)
   -- and the line after theirs holds their count
-  pub counted : tailOf false (lineAt (firstMember + length (c .members)) s) ≡ end (length (c .members))
+  pub counted : tailOf false (lineAt (firstMember (length (c .amends)) + length (c .members)) s) ≡ end (length (c .members))
 
 abbrev pub Members-Are-Lines : Type 0
 Members-Are-Lines = (s : List ℕ) (c : Case) → acceptingOf s ≡ values c → MembersStand c s
@@ -71,23 +76,39 @@ abbrev pub Plan-Lines : Type 0
 Plan-Lines =
     (s out : List ℕ) (room : ℕ) (c : Case) → acceptingOf s ≡ values c → valuedOf room s ≡ values out
     → linesPast (length (c .members)) out
-    ≡ totalLine (length (c .members)) (totals (c .plan) (c .rows) (c .members))
-    ++ signedLine (bytes "unfunded=") (unfunded (c .plan) (c .rows) (c .members))
-    ++ signedLine (bytes "supplemental=") (supplemental (c .plan) (c .rows) (c .members))
+    ≡ totalLine (length (c .members)) (totals (valuedPlan c) (c .rows) (c .members))
+    ++ signedLine (bytes "unfunded=") (unfunded (valuedPlan c) (c .rows) (c .members))
+    ++ signedLine (bytes "supplemental=") (supplemental (valuedPlan c) (c .rows) (c .members))
 
 -- ---- independence
--- two files agree in all lines before the members, and the line of member j in one is that of member j' in the other
-pub record Agreeing (s s' : List ℕ) (j j' : ℕ) : Type 0 where
-  pub before : (n : ℕ) → 1 ≤ n → n < firstMember → lineAt n s ≡ lineAt n s'
-  pub member : startsOf (bytes "member=") (lineAt (firstMember + j) s) ≡ true
-  pub same : lineAt (firstMember + j) s ≡ lineAt (firstMember + j') s'
+-- two files agree in all lines before the members, of which `amends` are amendments', and the line of member j in one is that of member j' in the other
+pub record Agreeing (amends : ℕ) (s s' : List ℕ) (j j' : ℕ) : Type 0 where
+  pub before : (n : ℕ) → 1 ≤ n → n < firstMember amends → lineAt n s ≡ lineAt n s'
+  pub member : startsOf (bytes "member=") (lineAt (firstMember amends + j) s) ≡ true
+  pub same : lineAt (firstMember amends + j) s ≡ lineAt (firstMember amends + j') s'
 
 -- rule 11.5: whatever the other members are, the same line is printed for the same member.
 -- Where `valuedOf` has values, the file is accepted and the lines fit; the members' lines stand first among them
 abbrev pub Independence : Type 0
 Independence =
-    (s s' out out' : List ℕ) (room room' j j' : ℕ) → valuedOf room s ≡ values out → valuedOf room' s' ≡ values out'
-    → Agreeing s s' j j' → lineAt (1 + j) out ≡ lineAt (1 + j') out'
+    (s s' out out' : List ℕ) (room room' j j' : ℕ) (c : Case) → acceptingOf s ≡ values c → valuedOf room s ≡ values out → valuedOf room' s' ≡ values out'
+    → Agreeing (length (c .amends)) s s' j j' → lineAt (1 + j) out ≡ lineAt (1 + j') out'
+
+-- ---- amendments that add nothing (rule 2.13); of a refusal after them see No-Additions-Move in walk/specs/Answers.antt
+-- in a file, from the state after the list on: after the same terms and before the same bytes, whose first line is no amendment's, such a list changes
+-- no byte that is printed
+abbrev pub No-Additions-Print : Type 0
+No-Additions-Print =
+    (room k : ℕ) (terms : List ℕ) (l : List Amendment) (s : List ℕ) (c : Case) → additions (inForce l) ≡ 0 → begins (uptoOf 10 s) ≡ false
+    → walkFrom true k (amending (headed terms)) s ≡ values c
+    → andThen (walkFrom true (k + length l) (amending (record { terms = terms; amends = l; rows = [] })) s) (λ d. fitting room (printed (valuedPlan d) (d .rows) (d .members)))
+    ≡ fitting room (printed (valuedPlan c) (c .rows) (c .members))
+
+-- and of plain values, where the list is accepted: the same figures, or the same refusal
+abbrev pub No-Additions-Alone : Type 0
+No-Additions-Alone =
+    (p : Plan) (l : List Amendment) (rows : List (List ℕ)) (m : Member) → amendmentsRefusal p l ≡ 0 → additions (inForce l) ≡ 0
+    → valuation p l rows m ≡ valuation p [] rows m
 
 -- ---- totals
 -- rule 11.1, totals are sums: nothing of no member, a figure of one, and of two lists what the two come to
@@ -112,7 +133,7 @@ pub record TotalsClose (p : Plan) (rows : List (List ℕ)) (members : List Membe
       (total* (λ m. L* (settingOf p rows m) (methodOf (p .method)) (m .age)) members)
 
 abbrev pub Totals-Accuracy : Type 0
-Totals-Accuracy = (s : List ℕ) (c : Case) → acceptingOf s ≡ values c → TotalsClose (c .plan) (c .rows) (c .members)
+Totals-Accuracy = (s : List ℕ) (c : Case) → acceptingOf s ≡ values c → TotalsClose (valuedPlan c) (c .rows) (c .members)
 
 -- ---- the supplemental cost
 -- rule 11.4, the exact supplemental: from the printed unfunded, with the exact C
@@ -155,4 +176,4 @@ pub record AmountsFit (p : Plan) (rows : List (List ℕ)) (members : List Member
   pub supplemental-size : Fits (natAbs (supplemental p rows members))
 
 abbrev pub Printed-Amounts-Fit : Type 0
-Printed-Amounts-Fit = (s : List ℕ) (c : Case) → acceptingOf s ≡ values c → AmountsFit (c .plan) (c .rows) (c .members)
+Printed-Amounts-Fit = (s : List ℕ) (c : Case) → acceptingOf s ≡ values c → AmountsFit (valuedPlan c) (c .rows) (c .members)

@@ -2,12 +2,12 @@
 // letter. A case is bytes, a number's little end first: the interest i in 2, then r, pay, e and m in 1 each, then for
 // each age 15 to 120 its death, withdrawal, disability and weight in 4 each. A case that the annuity functions do not take
 // is skipped. What it must write was made by another program, tests/annuity_factors.py.
-use annuity::Factors;
 use libc::STDIN_FILENO;
 use libc::STDOUT_FILENO;
 use rates::Rows;
 use test_support::byte;
 use test_support::rows_at;
+use year_steps::Factors;
 ghost use mathlib.Core.Bool.{true};
 ghost use mathlib.Core.Path.{_≡_};
 ghost use Prim.Native.Nat.{_≤_};

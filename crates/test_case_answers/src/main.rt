@@ -1,11 +1,13 @@
 // Reads case files from standard input, each after its length in 4 bytes, the little end first, and writes what reading
-// and what accepting answers: a line for each. Of an accepted case it writes the plan's numbers, the count of members
-// and a check sum of the rows and of the members that were handed on. What it must write was made by another program,
+// and what accepting answers: a line for each. Of an accepted case it writes the plan's numbers, with the heading's unit, the
+// counts of amendments and members, and a check sum each of the amendments, the rows and the members that were handed on. What it must write was made by another program,
 // tests/case_files.py.
 use casefile::Accepting;
 use casefile::Reading;
 use libc::STDIN_FILENO;
 use libc::STDOUT_FILENO;
+use plan::Amendments;
+use plan::MOST_AMENDMENTS;
 use plan::MOST_MEMBERS;
 use plan::Members;
 use plan::Plan;
@@ -68,13 +70,16 @@ fn reading(case: &[u8]) {
 }
 
 fn accepting(case: &[u8]) {
+    let mut amendments = [[0u64; 4]; MOST_AMENDMENTS];
     let mut rows = [[0u32; 4]; AGES];
     let mut members = [[0u64; 5]; MOST_MEMBERS];
-    match casefile::accept_case(case, &mut rows, &mut members) {
-        Accepting::Accepted(p, count) => {
+    match casefile::accept_case(case, &mut amendments, &mut rows, &mut members) {
+        Accepting::Accepted(p, listed, count) => {
             io::write_all(STDOUT_FILENO, b"accepted=");
             terms(p);
+            term(listed);
             io::print_decimal(STDOUT_FILENO, count);
+            next(sum_of_amendments(amendments, listed));
             next(sum_of_rows(rows));
             next(sum_of_members(members, count));
             io::write_all(STDOUT_FILENO, b"\n");
@@ -103,6 +108,23 @@ fn term(number: u64) {
 // The sum so far, with one number more.
 fn sum(so_far: u64, number: u64) -> u64 {
     (so_far % PRIME * 31 + number % PRIME) % PRIME
+}
+
+fn sum_of_amendments(amendments: Amendments, listed: u64) -> u64 {
+    let mut total = 0;
+    for j in 0..MOST_AMENDMENTS {
+        if (j as u64) < listed {
+            total = sum_of_amendment(total, amendments[j]);
+        }
+    }
+    total
+}
+
+fn sum_of_amendment(so_far: u64, amendment: [u64; 4]) -> u64 {
+    let number = sum(so_far, amendment[0]);
+    let rests = sum(number, amendment[1]);
+    let add = sum(rests, amendment[2]);
+    sum(add, amendment[3])
 }
 
 fn sum_of_rows(rows: Rows) -> u64 {

@@ -1,7 +1,6 @@
 // The figures of all members and the plan's own: RULES section 11. `work` fills the array of figures by either engine and
 // sums them, one after the other; the text is the crate report's. specs/Totals.antt has the totals, specs/Worked.antt what
 // the array holds, and specs/Choice.antt which engine works.
-use annuity::Factors;
 use annuity::deferred_annuity;
 use columns::Columns;
 use columns::ENDS;
@@ -14,6 +13,7 @@ use plan::Plan;
 use rates::AGES;
 use rates::Rows;
 use rounding::Signed;
+use year_steps::Factors;
 ghost use mathlib.Core.Path.{_≡_};
 ghost use Prim.Native.Nat.{_≤_, _<_};
 ghost use lib.IntN.{pos, _-ℤ_, _*ℤ_};
@@ -236,5 +236,5 @@ pub fn supplemental_of(unfunded: Signed, interest: u64, years: u64) -> Signed
     ensures { λ z. ⌜ z ≡ signed (nearestℤ (integerOf unfunded *ℤ pos Factors·S) (C interest years)) ⌝ }
 {
     let certain = annuity::certain_annuity(interest, years);
-    rounding::signed_mul_div_nearest(unfunded, annuity::S, certain)
+    rounding::signed_mul_div_nearest(unfunded, year_steps::S, certain)
 }

@@ -14,11 +14,16 @@ use Rattle.acceptance.proofs.Facts.{id-small, member-facts}
 use Rattle.members.specs.Array.{memberAt, arrayOf}
 use Rattle.members.proofs.ArrayLaws.{array-member}
 use Rattle.walk.specs.Outcome.{Outcome, values, refusal, andThen}
-use Rattle.walk.specs.Walk.{Case}
+use Rattle.amendments.specs.Force.{amendmentsFrom, asValued}
+use Rattle.amendments.proofs.Keeping.{list-kept, few-listed}
+use Rattle.acceptance.proofs.ValuedLaws.{amended-kept}
+use Rattle.walk.specs.Walk.{Case, valuedPlan}
+use Rattle.amend_lines.specs.Array.{listArray}
+use Rattle.amend_lines.proofs.ArrayLaws.{list-front}
 use Rattle.walk.specs.Kept.{AcceptedCase, nobody}
 use Rattle.casefile.specs.declared.Accepting.the-variants.{Accepted as CaseAccepted, Refused as CaseRefused}
 use Rattle.casefile.specs.Answers.{acceptingOf, accepting}
-use Rattle.casefile.specs.Stored.{idBeforeAt, rowsAfter, membersAfter, AcceptedArrays}
+use Rattle.casefile.specs.Stored.{idBeforeAt, amendmentsAfter, rowsAfter, membersAfter, AcceptedArrays}
 use Rattle.casefile.proofs.Arrays.{accepted-case}
 use Rattle.totals.specs.Worked.{membersIn, AcceptedMembers, AreWorked}
 use Rattle.totals.proofs.TotalLaws.{worked-small}
@@ -53,12 +58,19 @@ accepted-members {p} {n} {rows} {members} a =
 pub short-lines : (p : Plan) (rows members worked : List (List ℕ)) (n : ℕ) → AcceptedMembers p rows members n → AreWorked p rows members worked n → ShortLines members worked n
 short-lines p rows members worked n a is j h = (a .id j h, worked-small p rows members worked n a is j h)
 
-valued-by : (o : Outcome Case) (room : ℕ) {p : Plan} {n : ℕ} {rows : List (List ℕ)} {members : List (List ℕ)} (oldRows : List (List ℕ)) (oldMembers : List (List ℕ)) → ((c : Case) → o ≡ values c → AcceptedCase c) → CaseAccepted p n ≡ accepting o → rows ≡ rowsAfter o oldRows → members ≡ membersAfter o oldMembers → fitting room (printed p rows (membersIn members n)) ≡ andThen o (λ c. fitting room (printed (c .plan) (c .rows) (c .members)))
-valued-by (values c) room {p} {n} oldRows oldMembers is said table array =
+-- the amendments at the front of the array are the case's
+array-list : (c : Case) → AcceptedCase c → amendmentsFrom (take (length (c .amends)) (listArray (c .amends))) ≡ c .amends
+array-list c a =
+    let list = amended-kept (c .plan) (c .amends) (c .rows) (a .plan) .1 in
+    list-front (c .amends) refl (few-listed (c .amends) (list-kept (c .plan) (c .amends) list .0))
+
+valued-by : (o : Outcome Case) (room : ℕ) {p : Plan} {k n : ℕ} {amendments rows members : List (List ℕ)} (oldAmendments oldRows oldMembers : List (List ℕ)) → ((c : Case) → o ≡ values c → AcceptedCase c) → CaseAccepted p k n ≡ accepting o → amendments ≡ amendmentsAfter o oldAmendments → rows ≡ rowsAfter o oldRows → members ≡ membersAfter o oldMembers → fitting room (printed (asValued p (amendmentsFrom (take k amendments))) rows (membersIn members n)) ≡ andThen o (λ c. fitting room (printed (valuedPlan c) (c .rows) (c .members)))
+valued-by (values c) room {p} {k} {n} oldAmendments oldRows oldMembers is said list table array =
     let terms : p ≡ c .plan = cc in
+    let many : k ≡ length (c .amends) = cc in
     let count : n ≡ length (c .members) = cc in
-    rw (terms, count, table, array, array-members (c .members) (is c refl .few))
-valued-by (refusal number line) room oldRows oldMembers is said table array =
+    rw (terms, many, count, list, table, array, array-members (c .members) (is c refl .few), array-list c (is c refl))
+valued-by (refusal number line) room oldAmendments oldRows oldMembers is said list table array =
     let z : _≡_ {A = ℕ} 0 1 = cc in absurd (omega arith)
 
 refused-by : (o : Outcome Case) (more : Case → Outcome (List ℕ)) {number line : ℕ} → CaseRefused number line ≡ accepting o → andThen o more ≡ refusal number line
@@ -66,13 +78,13 @@ refused-by (values c) more said = let z : _≡_ {A = ℕ} 0 1 = cc in absurd (om
 refused-by (refusal n l) more said = cc
 
 module _ (s : List ℕ) (room : ℕ) where
-  pub valued-accepted : {p : Plan} {n : ℕ} {rows : List (List ℕ)} {members : List (List ℕ)} (oldRows : List (List ℕ)) (oldMembers : List (List ℕ)) → CaseAccepted p n ≡ accepting (acceptingOf s) → rows ≡ rowsAfter (acceptingOf s) oldRows → members ≡ membersAfter (acceptingOf s) oldMembers → fitting room (printed p rows (membersIn members n)) ≡ valuedOf room s
+  pub valued-accepted : {p : Plan} {k n : ℕ} {amendments rows members : List (List ℕ)} (oldAmendments oldRows oldMembers : List (List ℕ)) → CaseAccepted p k n ≡ accepting (acceptingOf s) → amendments ≡ amendmentsAfter (acceptingOf s) oldAmendments → rows ≡ rowsAfter (acceptingOf s) oldRows → members ≡ membersAfter (acceptingOf s) oldMembers → fitting room (printed (asValued p (amendmentsFrom (take k amendments))) rows (membersIn members n)) ≡ valuedOf room s
   unfolding valuedOf
-  valued-accepted oldRows oldMembers = valued-by (acceptingOf s) room oldRows oldMembers (accepted-case s)
+  valued-accepted oldAmendments oldRows oldMembers = valued-by (acceptingOf s) room oldAmendments oldRows oldMembers (accepted-case s)
 
   pub valued-refused : {number line : ℕ} → CaseRefused number line ≡ accepting (acceptingOf s) → valuedOf room s ≡ refusal number line
   unfolding valuedOf
-  valued-refused = refused-by (acceptingOf s) (λ c. fitting room (printed (c .plan) (c .rows) (c .members)))
+  valued-refused = refused-by (acceptingOf s) (λ c. fitting room (printed (valuedPlan c) (c .rows) (c .members)))
 
 -- ---- what the program prints, from the two answers
 -- where its line fits it is written, and where it doesn't the refusal stays what it was

@@ -5,6 +5,7 @@
 pub use acceptance::Acceptance;
 pub use acceptance::accept_member;
 pub use acceptance::accept_plan;
+use amendments::as_valued;
 pub use casefile::Accepting;
 pub use casefile::Reading;
 pub use casefile::accept_case;
@@ -15,6 +16,8 @@ pub use fitting::Answer;
 use fitting::fit_lines;
 pub use fitting::refusal_line;
 pub use plain_engine::value_member;
+pub use plan::Amendments;
+use plan::MOST_AMENDMENTS;
 use plan::MOST_MEMBERS;
 pub use plan::Member;
 use plan::Members;
@@ -47,15 +50,19 @@ pub fn value_case_by(engine: EngineChoice, case: &[u8], out: &mut [u8]) -> Answe
     ensures { λ r. ⌜ r ≡ answer (valuedOf (length (now (out .entry))) (now (case .entry))) ⌝ }
     ensures { λ _. ⌜ now (out .exit) ≡ buffer (valuedOf (length (now (out .entry))) (now (case .entry))) (now (out .entry)) ⌝ }
 {
+    let mut amendments = [[0u64; 4]; MOST_AMENDMENTS];
     let mut rows = [[0u32; 4]; AGES];
     let mut members = [[0u64; 5]; MOST_MEMBERS];
-    match accept_case(case, &mut rows, &mut members) {
-        Accepting::Accepted(p, count) => value_accepted(engine, p, rows, &members, count, out),
+    match accept_case(case, &mut amendments, &mut rows, &mut members) {
+        Accepting::Accepted(p, listed, count) => {
+            let valued = as_valued(p, &amendments[..listed as usize]);
+            value_accepted(engine, valued, rows, &members, count, out)
+        }
         Accepting::Refused(number, line) => Answer::Refused(number, line),
     }
 }
 
-// Values an accepted case.
+// Values an accepted case, under the plan as it is valued.
 fn value_accepted(
     engine: EngineChoice,
     p: Plan,

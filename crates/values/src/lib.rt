@@ -1,4 +1,4 @@
-// A line of a key, whole numbers with a comma after each, and a last value. There are three kinds of them, and a function
+// A line of a key, whole numbers with a comma after each, and a last value. There are four kinds of them, and a function
 // for each: where the fields stand one after the other, in a function that one other calls, LLVM inlines them. It doesn't
 // where they are read in a loop, or where rows and members share a function.
 use fields::Line;
@@ -70,6 +70,31 @@ pub fn four_and_amount(s: &[u8], key: &[u8], values: &mut Read) -> Line
         return unread(s);
     };
     *values = [a, b, c, d, m];
+    Line::Good(e)
+}
+
+// The same with four whole numbers.
+pub fn four_values(s: &[u8], key: &[u8], values: &mut Read) -> Line
+    requires { ⌜ hasOf 10 (now key) ≡ false ⌝ }
+    ensures { λ r. ⌜ r ≡ lineOf (keyedOf (now (key .entry)) wholeOf 3) (now (s .entry)) ⌝ }
+    ensures { λ r. ⌜ ((e : ℕ) → r ≡ Good e → Held (keyedOf (now (key .entry)) wholeOf 3 (uptoOf 10 (now (s .entry)))) 3 (now (values .exit))) ⌝ }
+{
+    if !starts(s, key) {
+        return unread(s);
+    }
+    let Field::Is(a, h) = field_at(s, key.len(), 44) else {
+        return unread(s);
+    };
+    let Field::Is(b, i) = field_at(s, h + 1, 44) else {
+        return unread(s);
+    };
+    let Field::Is(c, j) = field_at(s, i + 1, 44) else {
+        return unread(s);
+    };
+    let Field::Is(d, e) = field_at(s, j + 1, 10) else {
+        return unread(s);
+    };
+    *values = [a, b, c, d, 0];
     Line::Good(e)
 }
 

@@ -11,20 +11,24 @@ use lib.Dec.{eqb, ltb}
 use native.Mathlib.Omega.{arith}
 use native.Mathlib.Nat.{add-zero}
 use Rattle.rates.specs.Table.{ages}
+use Rattle.plan.specs.declared.Amendment.{Amendment}
 use Rattle.plan.specs.declared.Member.{Member}
 use Rattle.plan.specs.Benefit.{B}
 use Rattle.rules.specs.Rules.{firstOf}
 use Rattle.rules.specs.Heading.{TermRule, termRules, termRule, termsOf, ruled, headRules, planFrom}
-use Rattle.rules.specs.Table.{rowRules, rowNumbers, rowOf as rowIn, weightBefore, rowsRefusal}
-use Rattle.acceptance.specs.Acceptance.{planRefusal, memberRefusal, personSum}
+use Rattle.row_rules.specs.Table.{rowRules, rowNumbers, rowOf as rowIn, weightBefore, rowsRefusal}
+use Rattle.amendments.specs.Judging.{amendmentRefusal, unitRefusal, eachRefusal}
+use Rattle.amendments.proofs.Keeping.{list-kept, kept-list, each-next, next-each}
+use Rattle.acceptance.specs.Acceptance.{amendedRefusal, memberRefusal, personSum}
 use Rattle.rules.proofs.RuleLaws.{All-kept, all-kept, kept-all}
 use Rattle.acceptance.proofs.Facts.{line-kept}
+use Rattle.acceptance.proofs.ValuedLaws.{amended-kept, kept-amended}
 use Rattle.acceptance.proofs.SumLaws.{sum-both, sum-next}
 use Rattle.walk.specs.Outcome.{values, refusal}
 use Rattle.walk.specs.Terms.{termForms, termRefusal}
 use Rattle.walk.specs.Lines.{dueAge, rowRefusal}
-use Rattle.walk.specs.Step.{Head, State, heading, table, people, ended, lastId, sumIn, refusalAfter}
-use Rattle.walk.specs.Walk.{Case, linesOf, restOf, caseOf, closed, folded, start, walkFrom, walkOf}
+use Rattle.walk.specs.Step.{Head, planIn, State, heading, amending, table, people, ended, lastId, sumIn, refusalAfter}
+use Rattle.walk.specs.Walk.{Case, linesOf, restOf, nextOf, caseOf, closed, folded, start, walkFrom, walkOf}
 use Rattle.walk.specs.Kept.{EachAfter, Each, Kept, nobody, idBefore, AcceptedCase}
 use Rattle.walk.specs.Answers.{AcceptedKeepsRules, AcceptsWhatKeepsRules}
 use Rattle.walk.proofs.OutcomeLaws.{no-values, values-one, then-values}
@@ -67,6 +71,14 @@ unfolding termForms headRules
 head-kept t n =
     let k = each-judged termRules [] t (λ j. let place : 0 + j ≡ j = omega arith in ap termRule place) (omega arith) in
     subst (λ (u : List ℕ). Each termRefusal t ↔ (firstOf (ruled termRules [] u) ≡ 0)) (sym (terms-back t n)) ((λ e. kept-all (ruled termRules [] t) (k .0 e)), (λ e. k .1 (all-kept (ruled termRules [] t) e)))
+
+-- ---- the amendments
+pub amends-kept : (before l : List Amendment) → EachAfter amendmentRefusal before l ↔ (eachRefusal before l ≡ 0)
+unfolding eachRefusal
+amends-kept before [] = ((λ k. refl), (λ e. tt))
+amends-kept before (a ∷ l) =
+    let later = amends-kept (before ++ a ∷ []) l in
+    ((λ k. next-each before l a (k .0) (later .0 (k .1))), (λ e. let f = each-next before l a e in (f .0, later .1 (f .1))))
 
 -- ---- the rows
 weight-same : (before l : List (List ℕ)) → weightBefore (before ++ l) (dueAge before) ≡ weightBefore before (dueAge before)
@@ -115,23 +127,23 @@ module _ (h : Head) where
   sums-kept before (m ∷ l) k low person = rw append-assoc at (sums-kept (before ++ m ∷ []) l (k .1) next person)
     where
       own : ℕ
-      own = B (planFrom (h .terms)) (h .rows) m (planFrom (h .terms) .retire)
+      own = B (planIn h) (h .rows) m (planIn h .retire)
 
       pick : (person : ℕ) (b : Bool) → eqb (m .person) person ≡ b → sumIn h person before + cond b own 0 ≤ 100000000
       pick person true e =
           let same = eqb-true (m .person) person e in
-          subst (λ (x : ℕ). sumIn h x before + own ≤ 100000000) same (line-kept (planFrom (h .terms)) (h .rows) (lastId before) (sumIn h (m .person) before) m .0 (k .0) .1)
+          subst (λ (x : ℕ). sumIn h x before + own ≤ 100000000) same (line-kept (planIn h) (h .rows) (lastId before) (sumIn h (m .person) before) m .0 (k .0) .1)
       pick person false e = rw add-zero (low person)
 
       next : (person : ℕ) → sumIn h person (before ++ m ∷ []) ≤ 100000000
-      next person = rw (sum-next (planFrom (h .terms)) (h .rows) person before m) (pick person (eqb (m .person) person) refl)
+      next person = rw (sum-next (planIn h) (h .rows) person before m) (pick person (eqb (m .person) person) refl)
 
   -- and where each person's sum is kept, and each line by itself, each line is kept after those before it
-  kept-sums : (before l : List Member) → ((j : ℕ) → j < length l → memberRefusal (planFrom (h .terms)) (h .rows) (lastId (before ++ take j l)) (getD l j nobody) ≡ 0) → ((person : ℕ) → sumIn h person (before ++ l) ≤ 100000000) → EachAfter (refusalAfter h) before l
+  kept-sums : (before l : List Member) → ((j : ℕ) → j < length l → memberRefusal (planIn h) (h .rows) (lastId (before ++ take j l)) (getD l j nobody) ≡ 0) → ((person : ℕ) → sumIn h person (before ++ l) ≤ 100000000) → EachAfter (refusalAfter h) before l
   unfolding personSum
   kept-sums before [] own low = tt
   kept-sums before (m ∷ l) own low =
-      let p = planFrom (h .terms) in
+      let p = planIn h in
       let parts = sum-both p (h .rows) (m .person) before (m ∷ l) in
       let mine = eq-eqb (m .person) (m .person) refl in
       let sum : sumIn h (m .person) before + (B p (h .rows) m (p .retire) + sumIn h (m .person) l) ≤ 100000000 = rw (parts, mine) at (low (m .person)) in (
@@ -140,39 +152,49 @@ module _ (h : Head) where
       )
 
 -- ---- a whole case
-pub plan-kept : (t : List ℕ) (rows : List (List ℕ)) → length t ≡ length termForms → length rows ≡ ages → (planRefusal (planFrom t) rows ≡ 0) ↔ (Each termRefusal t × Each rowRefusal rows)
-unfolding planRefusal
-plan-kept t rows all full =
-    let rules = both (firstOf (headRules (planFrom t))) (rowsRefusal rows 15 106) in
-    let head = head-kept t all in
-    let lines = rw full at (rows-kept [] rows) in
-    ((λ e. let k = rules .0 e in (head .1 (k .0), lines .1 (k .1))), (λ k. rules .1 (head .0 (k .0), lines .0 (k .1))))
+module _ (t : List ℕ) (l : List Amendment) (rows : List (List ℕ)) where
+  abbrev pub HeadKeeps : Type 0
+  HeadKeeps =
+      Each termRefusal t × Each amendmentRefusal l × (unitRefusal (planFrom t) l ≡ 0) × Each rowRefusal rows
+
+  pub plan-kept : length t ≡ length termForms → length rows ≡ ages → (amendedRefusal (planFrom t) l rows ≡ 0) ↔ HeadKeeps
+  plan-kept all full =
+      let p = planFrom t in
+      let head = head-kept t all in
+      let list = amends-kept [] l in
+      let lines = rw full at (rows-kept [] rows) in (
+        (λ e. let k = amended-kept p l rows e in let f = list-kept p l (k .1) in (head .1 (k .0), list .1 (f .0), f .1, lines .1 (k .2))),
+        (λ k. kept-amended p l rows (head .0 (k .0)) (kept-list p l (list .0 (k .1)) (k .2)) (lines .0 (k .3))),
+      )
 
 module _ (h : Head) (members : List Member) (k : ℕ) (sized : Sized k (ended h members)) where
-  case-kept : Kept (ended h members) ↔ AcceptedCase (caseOf h members)
-  case-kept = (
+  case-kept : (rest : List ℕ) → Kept (ended h members) rest ↔ AcceptedCase (caseOf h members)
+  case-kept rest = (
     (λ k.
         record {
-          plan = plan-kept (h .terms) (h .rows) (sized .1) (sized .2) .1 (k .terms, k .rows);
-          all-ages = sized .2;
-          few = sized .3;
+          plan = plan-kept (h .terms) (h .amends) (h .rows) (sized .1) (sized .3) .1 (k .terms, k .amends, k .unit, k .rows);
+          all-ages = sized .3;
+          few = sized .4;
           member = λ j low. rw (← id-at members j low) (line-kept _ _ _ _ _ .0 (each-at (refusalAfter h) nobody [] members (k .members) j low) .0);
           persons = sums-kept h [] members (k .members) (none h);
         }),
     (λ a.
-        let p = plan-kept (h .terms) (h .rows) (sized .1) (sized .2) .0 (a .plan) in
+        let p = plan-kept (h .terms) (h .amends) (h .rows) (sized .1) (sized .3) .0 (a .plan) in
         record {
           terms = p .0;
-          rows = p .1;
+          amends = p .1;
+          unit = p .2;
+          rows = p .3;
           members = kept-sums h [] members (λ j low. rw (id-at members j low) (a .member j low)) (a .persons);
         }),
   )
 
-end-kept : (k : ℕ) (rest : List ℕ) (last : State) (c : Case) → closed k rest last ≡ values c → Sized k last → Kept last ↔ AcceptedCase c
-end-kept k rest (heading h) c e sized = no-values e
+end-kept : (k : ℕ) (rest : List ℕ) (last : State) (c : Case) → closed k rest last ≡ values c → Sized k last → Kept last rest ↔ AcceptedCase c
+end-kept k rest (heading terms) c e sized = no-values e
+end-kept k rest (amending h) c e sized = no-values e
 end-kept k rest (table h) c e sized = no-values e
 end-kept k rest (people h members) c e sized = no-values e
-end-kept k rest (ended h members) c e sized = subst (λ (c : Case). Kept (ended h members) ↔ AcceptedCase c) (whole (eqb (length rest) 0) e) (case-kept h members k sized)
+end-kept k rest (ended h members) c e sized = subst (λ (c : Case). Kept (ended h members) rest ↔ AcceptedCase c) (whole (eqb (length rest) 0) e) (case-kept h members k sized rest)
   where
     whole : (b : Bool) → cond b (values (caseOf h members)) (refusal 3 k) ≡ values c → caseOf h members ≡ c
     whole true e = values-one e
@@ -201,17 +223,17 @@ module _ (s : List ℕ) (c : Case) where
   unfolding walkOf walkFrom
   walk-of ranges f = rw (f .short, f .fold) (f .whole)
 
-  last-kept : (ranges : Bool) (f : Last ranges) → Kept (f .last) ↔ AcceptedCase c
+  last-kept : (ranges : Bool) (f : Last ranges) → Kept (f .last) (restOf s) ↔ AcceptedCase c
   last-kept ranges f =
       end-kept _ _ (f .last) c (f .whole) (folded-keeps Sized line-sized ranges (restOf s) 1 start (linesOf s) (f .fold) start-sized)
 
-start-kept : Kept start
-start-kept = record { terms = tt; rows = tt; members = tt }
+start-kept : (line : List ℕ) → Kept start line
+start-kept line = record { terms = tt; amends = tt; unit = refl; rows = tt; members = tt }
 
 pub accepted-keeps : AcceptedKeepsRules
 accepted-keeps s c e =
     let f = last-of s c true e in
-    let g = accepted-kept Kept step-kept (restOf s) 1 start (linesOf s) (f .fold) start-kept in
+    let g = accepted-kept Kept step-kept (restOf s) 1 start (linesOf s) (f .fold) (start-kept (nextOf (restOf s) (linesOf s))) in
     (walk-of s c false (record { last = f .last; short = f .short; fold = g .0; whole = f .whole }), (last-kept s c true f) .0 (g .1))
 
 pub accepts-kept : AcceptsWhatKeepsRules

@@ -10,8 +10,9 @@ use native.Mathlib.Nat.{add-zero}
 use Rattle.walk.specs.Outcome.{Outcome, values, refusal, andThen, settled}
 use Rattle.walk.specs.Step.{State, Verdict, wrong, right, verdictOf, judged, step}
 use Rattle.walk.specs.Walk.{Case, nextOf, closed, folded}
-use Rattle.walk.specs.Answers.{RangeNumber}
-use Rattle.walk.proofs.OutcomeLaws.{refuses, no-values, values-one, passed, then-values, Only, only-then}
+use Rattle.rules.specs.Refusals.{outOfRange, wrongAmendment}
+use Rattle.walk.specs.Answers.{RangeNumber, Sooner}
+use Rattle.walk.proofs.OutcomeLaws.{refuses, no-values, values-one, passed, then-values, Only, only-weaker, only-then}
 use Rattle.walk.proofs.LineLaws.{along, along-cons}
 
 -- ---- a step that goes on
@@ -40,31 +41,36 @@ module _ (ranges : Bool) (P : ℕ → ℕ → Type 0) (Holds : ℕ → State →
       (only-then P (step ranges k state line a) _ (at-line k state line a h)
       (λ next e. let p = walk-on ranges k state line a e in along-only rest (k + 1) next lines (rw (p .1) at (keeps k state line a h))))
 
--- ---- reading and accepting: they answer alike, or accepting refuses by a range at an earlier line
+-- ---- reading and accepting: they answer alike, or accepting refuses by a range sooner
 pub record Before (read accepted : Outcome Case) : Type 0 where
   pub number : ℕ
   pub line : ℕ
   pub is : accepted ≡ refusal number line
   pub range : RangeNumber number
-  pub later : Only (λ n l. line < l) read
+  pub later : Only (Sooner number line) read
 
 abbrev pub NoLater : Outcome Case → Outcome Case → Type 0
 NoLater read accepted = (read ≡ accepted) ⊎ Before read accepted
 
--- what a range rule says is a range's number; before a wrong form it says nothing
+-- what a range rule says is a range's number; before a wrong form it says something only of a field, and only where the form is that of 53
 abbrev pub InOrder : Verdict → Type 0
-InOrder (wrong r n) = r ≡ 0
+InOrder (wrong r n) = (r ≡ 0) ⊎ (RangeNumber r × (r ≡ outOfRange) × (n ≡ wrongAmendment))
 InOrder (right r next) = (r ≡ 0) ⊎ RangeNumber r
 
 refusing : {r : ℕ} → (suc r ≡ 0) ⊎ RangeNumber (suc r) → RangeNumber (suc r)
 refusing = ⊎-elim (λ e. absurd (omega arith)) (λ n. n)
 
+speaking : {r n : ℕ} → (suc r ≡ 0) ⊎ (RangeNumber (suc r) × (suc r ≡ outOfRange) × (n ≡ wrongAmendment)) → RangeNumber (suc r) × (suc r ≡ outOfRange) × (n ≡ wrongAmendment)
+speaking = ⊎-elim (λ e. absurd (omega arith)) (λ n. n)
+
 line-no-later : (k : ℕ) (x : Verdict) (f g : State → Outcome Case) → InOrder x → ((next : State) → Only (λ n l. k < l) (f next)) → ((next : State) → NoLater (f next) (g next)) → NoLater (andThen (judged false k x) f) (andThen (judged true k x) g)
 line-no-later k (wrong zero n) f g order low on = inl refl
-line-no-later k (wrong (suc r) n) f g order low on = absurd (omega arith)
+line-no-later k (wrong (suc r) n) f g order low on =
+    let field = speaking order in
+    inr (record { number = suc r; line = k; is = ap (λ (o : Outcome State). andThen o g) (refuses r k (refusal n k)); range = field .0; later = inr (refl, field .1, field .2) })
 line-no-later k (right zero next) f g order low on = on next
 line-no-later k (right (suc r) next) f g order low on =
-    inr (record { number = suc r; line = k; is = ap (λ (o : Outcome State). andThen o g) (refuses r k (values next)); range = refusing order; later = low next })
+    inr (record { number = suc r; line = k; is = ap (λ (o : Outcome State). andThen o g) (refuses r k (values next)); range = refusing order; later = only-weaker (λ n l. k < l) (Sooner (suc r) k) (λ n l h. inl h) (f next) (low next) })
 
 module _ (order : (state : State) (line ahead : List ℕ) → InOrder (verdictOf state line ahead)) (low : (rest : List ℕ) (j k : ℕ) (state : State) (lines : List (List ℕ)) → j < k → Only (λ n l. j < l) (along false rest k state lines)) where
   pub along-no-later : (rest : List ℕ) (k : ℕ) (state : State) (lines : List (List ℕ)) → NoLater (along false rest k state lines) (along true rest k state lines)
@@ -87,8 +93,8 @@ module _ (Holds : ℕ → State → Type 0) (keeps : (k : ℕ) (state : State) (
       rw place at (folded-keeps ranges rest (k + 1) (s .0) lines (s .2) (rw (p .1) at (keeps k state line (nextOf rest lines) h)))
 
 -- ---- accepting is reading, where every line keeps its ranges
-module _ (Kept : State → Type 0) (law : (state : State) (line ahead : List ℕ) → Right (λ r next. Kept next ↔ (Kept state × (r ≡ 0))) (verdictOf state line ahead)) where
-  pub accepted-kept : (rest : List ℕ) (k : ℕ) (state : State) (lines : List (List ℕ)) {last : State} → folded true rest k state lines ≡ values last → Kept state → (folded false rest k state lines ≡ values last) × Kept last
+module _ (Kept : State → List ℕ → Type 0) (law : (state : State) (line ahead : List ℕ) → Right (λ r next. Kept next ahead ↔ (Kept state line × (r ≡ 0))) (verdictOf state line ahead)) where
+  pub accepted-kept : (rest : List ℕ) (k : ℕ) (state : State) (lines : List (List ℕ)) {last : State} → folded true rest k state lines ≡ values last → Kept state (nextOf rest lines) → (folded false rest k state lines ≡ values last) × Kept last rest
   unfolding folded step
   accepted-kept rest k state [] e h = (e, rw (values-one e) at h)
   accepted-kept rest k state (line ∷ lines) e h =
@@ -97,7 +103,7 @@ module _ (Kept : State → Type 0) (law : (state : State) (line ahead : List ℕ
       let later = accepted-kept rest (k + 1) (s .0) lines (s .2) ((rw (p .1) at (law state line (nextOf rest lines))) .1 (h, p .2)) in
       (rw (p .1) (later .0), later .1)
 
-  pub kept-accepted : (rest : List ℕ) (k : ℕ) (state : State) (lines : List (List ℕ)) {last : State} → folded false rest k state lines ≡ values last → Kept last → (folded true rest k state lines ≡ values last) × Kept state
+  pub kept-accepted : (rest : List ℕ) (k : ℕ) (state : State) (lines : List (List ℕ)) {last : State} → folded false rest k state lines ≡ values last → Kept last rest → (folded true rest k state lines ≡ values last) × Kept state (nextOf rest lines)
   unfolding folded step
   kept-accepted rest k state [] e h = (e, rw (sym (values-one e)) at h)
   kept-accepted rest k state (line ∷ lines) e h =

@@ -1,4 +1,4 @@
--- The laws of the walk, from outcomes up to the whole file; Theorems, Rests, SumRests, Accepted and Examples are what a reader looks for.
+-- The laws of the walk, from outcomes up to the whole file; Theorems, Rests, SumRests, NoAdditions and Accepted are what a reader looks for.
 pub mod OutcomeLaws
 pub mod LineLaws
 pub mod FoldLaws
@@ -7,5 +7,5 @@ pub mod StepLaws
 pub mod Theorems
 pub mod Rests
 pub mod SumRests
+pub mod NoAdditions
 pub mod Accepted
-pub mod Examples

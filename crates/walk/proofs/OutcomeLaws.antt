@@ -36,6 +36,10 @@ abbrev pub Only : {A : Type 0} → (ℕ → ℕ → Type 0) → Outcome A → Ty
 Only P (values a) = Unit {0}
 Only P (refusal n l) = P n l
 
+pub only-weaker : {A : Type 0} (P Q : ℕ → ℕ → Type 0) → ((n l : ℕ) → P n l → Q n l) → (o : Outcome A) → Only P o → Only Q o
+only-weaker P Q more (values a) h = tt
+only-weaker P Q more (refusal n l) h = more n l h
+
 module _ {A : Type 0} (P : ℕ → ℕ → Type 0) where
   pub only-then : {B : Type 0} (o : Outcome B) (f : B → Outcome A) → Only P o → ((b : B) → o ≡ values b → Only P (f b)) → Only P (andThen o f)
   only-then (values b) f h k = k b refl

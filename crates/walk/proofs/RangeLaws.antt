@@ -11,15 +11,19 @@ use Rattle.fields.specs.Text.{bytes}
 use Rattle.fields.specs.Split.{sameOf}
 use Rattle.fields.specs.Values.{Values, found, misread}
 use Rattle.plan.specs.declared.Plan.{Plan}
+use Rattle.plan.specs.declared.Amendment.{Amendment}
 use Rattle.plan.specs.declared.Member.{Member}
 use Rattle.rules.specs.Rules.{unless, firstOf, between}
 use Rattle.plan.specs.Benefit.{B}
-use Rattle.rules.specs.Heading.{TermRule, termRules, formulaIn, formulaRule, methodRule}
-use Rattle.rules.specs.Table.{rowRules, rowNumbers, weightBefore}
+use Rattle.rules.specs.Heading.{TermRule, unitMost, termRules, formulaIn, formulaRule, methodRule}
+use Rattle.row_rules.specs.Table.{rowRules, rowNumbers, weightBefore}
+use Rattle.amendments.specs.Force.{listed, unitValued}
+use Rattle.amendments.specs.Judging.{mostAmendments, lastNumber, fieldRefusal, amendmentRules, amendmentRefusal, unitRefusal}
 use Rattle.acceptance.specs.Acceptance.{fieldRules, benefitRules, memberRefusal, lineRefusal}
 use Rattle.walk.specs.Terms.{formulaWord, methodWord, termForms, termForm, termRefusal}
-use Rattle.walk.specs.Lines.{dueAge, rowRefusal}
-use Rattle.walk.specs.Answers.{Section, in-heading, in-table, in-members, RangeOf, of-a-term, of-average, of-a-rate, of-death, of-weight, of-id, of-person, of-entry, of-age, of-salary, of-benefit, of-sum}
+use Rattle.walk.specs.Lines.{begins, dueAge, rowRefusal}
+use Rattle.walk.specs.Step.{Head, withAmend, unitAhead, amendRefusal}
+use Rattle.walk.specs.Answers.{Section, in-heading, in-list, in-table, in-members, RangeOf, of-a-term, of-average, of-a-field, of-order, of-rest, of-unit, of-a-rate, of-death, of-weight, of-id, of-person, of-entry, of-age, of-salary, of-benefit, of-sum}
 
 -- no refusal, or a range's
 abbrev pub Ranged : Section → ℕ → Type 0
@@ -38,6 +42,44 @@ module _ (section : Section) where
   all-ranged [] r = inl refl
   all-ranged (zero ∷ later) r = all-ranged later (r .1)
   all-ranged (suc a ∷ later) r = rw (eqb·suc-zero a) (r .0)
+
+-- ---- an amendment
+module _ (before : List Amendment) (a : Amendment) where
+  abbrev fields : Bool
+  fields = between 1 999 (a .number) && (leb (a .rests) 999 && (leb (a .add) 100000 && leb (a .struck) 1))
+
+  -- where a field speaks, it says 11
+  pub field-ranged : (fieldRefusal a ≡ 0) ⊎ (RangeOf in-list (fieldRefusal a) × (fieldRefusal a ≡ 11))
+  field-ranged = pick fields
+    where
+      pick : (b : Bool) → (unless b 11 ≡ 0) ⊎ (RangeOf in-list (unless b 11) × (unless b 11 ≡ 11))
+      pick true = inl refl
+      pick false = inr (of-a-field, refl)
+
+  amendment-ranged : Ranged in-list (amendmentRefusal before a)
+  unfolding amendmentRules
+  amendment-ranged =
+      all-ranged in-list (amendmentRules before a) (
+        rule-ranged fields of-a-field,
+        (
+          rule-ranged (ltb (lastNumber before) (a .number) && ltb (length before) mostAmendments) of-order,
+          (rule-ranged (eqb (a .rests) 0 || listed (a .rests) before) of-rest, tt),
+        ),
+      )
+
+unit-ranged : (p : Plan) (l : List Amendment) → Ranged in-list (unitRefusal p l)
+unfolding unitRefusal
+unit-ranged p [] = inl refl
+unit-ranged p (a ∷ l) = rule-ranged (leb (unitValued p (a ∷ l)) (unitMost (p .formula))) of-unit
+
+ahead-ranged : (b : Bool) (n : ℕ) → Ranged in-list n → Ranged in-list (cond b 0 n)
+ahead-ranged true n r = inl refl
+ahead-ranged false n r = r
+
+pub amend-ranged : (h : Head) (ahead : List ℕ) (a : Amendment) → Ranged in-list (amendRefusal h ahead a)
+amend-ranged h ahead a =
+    all-ranged in-list (amendmentRefusal (h .amends) a ∷ unitAhead (withAmend h a) ahead ∷ [])
+    (amendment-ranged (h .amends) a, (ahead-ranged (begins ahead) _ (unit-ranged _ (h .amends ++ a ∷ [])), tt))
 
 -- ---- a row, and a member
 pub row-ranged : (before : List (List ℕ)) (row : List ℕ) → Ranged in-table (rowRefusal before row)
@@ -124,7 +166,7 @@ all-fit = (
       (
         formula-fits,
         (
-          (λ line before vs e. rule-ranged (leb (getD vs 0 0) (cond (eqb (formulaIn before) 1) 100000 500)) of-a-term),
+          (λ line before vs e. rule-ranged (leb (getD vs 0 0) (unitMost (formulaIn before))) of-a-term),
           (
             (λ line before vs e. rule-ranged (cond (eqb (formulaIn before) 3) (between 1 10 (getD vs 0 0)) (eqb (getD vs 0 0) 0)) of-average),
             (

@@ -1,4 +1,5 @@
--- The lines after the heading: a row, RULES section 3; a member or the end, section 4. The range rules of a row are the crate rules', those of a member the crate acceptance's.
+-- The lines after the terms: an amendment, rule 2.11; a row, RULES section 3; a member or the end, section 4. The range rules of an amendment are the crate
+-- amendments', those of a row the crate rules', those of a member the crate acceptance's.
 use Prim.Native.Nat.{ℕ, _+_}
 use mathlib.Core.List.{List, [], _∷_}
 use mathlib.Core.Bool.{Bool, cond}
@@ -11,7 +12,16 @@ use Rattle.fields.specs.Values.{Values, found, misread, keyedOf}
 use Rattle.rates.specs.Table.{firstAge}
 use Rattle.plan.specs.declared.Member.{Member}
 use Rattle.rules.specs.Rules.{firstOf}
-use Rattle.rules.specs.Table.{rowRules, rowNumbers, weightBefore}
+use Rattle.row_rules.specs.Table.{rowRules, rowNumbers, weightBefore}
+
+-- ---- an amendment
+-- rule 2.11: a line after the terms that begins so is an amendment's, and any other the first row's
+abbrev pub begins : List ℕ → Bool
+begins line = startsOf (bytes "amend=") line
+
+-- rule 2.11: amend=, the number, the number that it rests on, the addition and whether it is struck
+unfoldable pub amendForm : List ℕ → Values
+amendForm = keyedOf (bytes "amend=") wholeOf 3
 
 -- ---- a row
 -- the age that is due, and the four numbers after it

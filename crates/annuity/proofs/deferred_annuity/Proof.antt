@@ -3,7 +3,7 @@ use native.Mathlib.Omega.{arith}
 use Rattle.factors.specs.Basis.{basis, payable}
 use Rattle.factors.proofs.Bases.{basis-fair, payable-fair}
 use Rattle.factors.proofs.PensionLaws.{pension-most}
-use Rattle.annuity.proofs.Filling.{deferred-filled}
+use Rattle.year_steps.proofs.Filling.{deferred-filled}
 use borrow.Author.Needs.{needs}
 use Rattle.annuity.proofs.deferred_annuity.Statement.{statement}
 use Rattle.annuity.proofs.deferred_annuity.Tie as tie

@@ -1,7 +1,7 @@
 -- `annuity::life_of` meets its contract: A is a case of the one factor.
 use borrow.Author.Needs.{needs}
 use Rattle.factors.specs.Factors.{A}
-use Rattle.annuity.specs.Filled.{paidOf, factor}
+use Rattle.year_steps.specs.Filled.{paidOf, factor}
 use Rattle.annuity.proofs.life_of.Statement.{statement}
 use Rattle.annuity.proofs.life_of.Tie as tie
 

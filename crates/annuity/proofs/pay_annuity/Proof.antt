@@ -1,7 +1,7 @@
 -- `annuity::pay_annuity` meets its contract: Z is a case of the one factor.
 use borrow.Author.Needs.{needs}
 use Rattle.factors.specs.Factors.{Z}
-use Rattle.annuity.specs.Filled.{paidOf, factor}
+use Rattle.year_steps.specs.Filled.{paidOf, factor}
 use Rattle.annuity.proofs.pay_annuity.Statement.{statement}
 use Rattle.annuity.proofs.pay_annuity.Tie as tie
 

@@ -1,7 +1,7 @@
 -- `annuity::working_annuity` meets its contract: T is a case of the one factor.
 use borrow.Author.Needs.{needs}
 use Rattle.factors.specs.Factors.{T}
-use Rattle.annuity.specs.Filled.{paidOf, factor}
+use Rattle.year_steps.specs.Filled.{paidOf, factor}
 use Rattle.annuity.proofs.working_annuity.Statement.{statement}
 use Rattle.annuity.proofs.working_annuity.Tie as tie
 

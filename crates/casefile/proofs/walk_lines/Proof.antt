@@ -18,7 +18,8 @@ walk-lines-spec =
     tie.close
     (tie.spec large (λ c κs. search needs) (λ c. search needs)
     (λ c κs. head-is _ _ (c .before .before .before .before .before .if1 .left) _ _ (c .before .before .before .head-lines .ensures) (c .before .line .given .1) .within)
-    (λ c κs. (head-is _ _ (c .before .before .before .before .before .before .before .before .before .if1 .left) _ _ (c .before .before .before .before .before .before .before .head-lines .ensures) (c .before .before .before .before .before .line .given .1) .good, head-low _ _ (c .before .before .before .before .before .before .before .before .before .if1 .left) _ _ (c .before .before .before .before .before .before .before .head-lines .ensures) (c .before .before .before .before .before .line .given .1)))
+    (λ c κs. (head-is _ _ (c .before .before .before .before .before .before .before .before .before .before .if1 .left) _ _ (c .before .before .before .before .before .before .before .before .head-lines .ensures) (c .before .before .before .before .before .before .line .given .1) .good, head-low _ _ (c .before .before .before .before .before .before .before .before .before .before .if1 .left) _ _ (c .before .before .before .before .before .before .before .before .head-lines .ensures) (c .before .before .before .before .before .before .line .given .1), c .before .before .before .before .before .before .before .before .before .before .before .before .pre))
     (λ c. search needs)
-    (λ c. walk-is _ _ (c .before .before .before .before .before .before .before .before .before .before .if1 .left) _ _ (c .before .before .before .before .before .before .before .before .head-lines .ensures) _ _ _ _ (c .before .before .before .before .before .before .line .given .1) (c .before .before .before .before .from .ensures) (c .walk-table .ensures))
+    (λ c. c .before .walk-list .kept .1 .1 .1 .1 .0)
+    (λ c. walk-is _ _ (c .before .before .before .before .before .before .before .before .before .before .before .before .if1 .left) _ _ (c .before .before .before .before .before .before .before .before .before .before .head-lines .ensures) _ _ _ _ _ (c .before .before .before .before .before .before .before .before .line .given .1) (c .before .before .before .before .before .before .from .ensures) (c .before .walk-list .ensures))
     refused)

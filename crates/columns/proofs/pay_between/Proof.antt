@@ -1,6 +1,6 @@
 -- `columns::pay_between` meets its contract: Z is a case of the one factor.
 use Rattle.factors.specs.Factors.{Z}
-use Rattle.annuity.specs.Filled.{paidOf, factor}
+use Rattle.year_steps.specs.Filled.{paidOf, factor}
 use Rattle.columns.proofs.pay_between.Statement.{statement}
 use Rattle.columns.proofs.pay_between.Tie as tie
 

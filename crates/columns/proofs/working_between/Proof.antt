@@ -1,6 +1,6 @@
 -- `columns::working_between` meets its contract: T is a case of the one factor.
 use Rattle.factors.specs.Factors.{T}
-use Rattle.annuity.specs.Filled.{paidOf, factor}
+use Rattle.year_steps.specs.Filled.{paidOf, factor}
 use Rattle.columns.proofs.working_between.Statement.{statement}
 use Rattle.columns.proofs.working_between.Tie as tie
 

@@ -1,13 +1,6 @@
 -- `rules::terms::unit_rule` meets its contract.
-use borrow.Author.Tests.{eq-eqb, ne-eqb}
 use Rattle.rules.proofs.terms.unit_rule.Statement.{statement}
 use Rattle.rules.proofs.terms.unit_rule.Tie as tie
 
-returns : tie.Need-returns
-returns c = simp (eq-eqb (c .before .before .args .formula) 1 (c .before .if1 .taken)) (c .unless .ensures)
-
-returns-2 : tie.Need-returns-2
-returns-2 c = simp (ne-eqb (c .before .before .args .formula) 1 (c .before .if1 .left)) (c .unless2 .ensures)
-
 pub unit-rule-spec : {M : Type 1} → statement M
-unit-rule-spec = search (tie.close, tie.spec, returns, returns-2)
+unit-rule-spec = tie.close (tie.spec (search) (search) (λ c. rw (c .before .unit-most .ensures) at (c .unless .ensures)))

@@ -1,0 +1,2 @@
+-- Whole files and their answers.
+pub mod Examples
