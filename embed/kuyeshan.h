@@ -99,9 +99,9 @@ uint64_t kuyeshan_refusal_line(uint64_t number, uint64_t line, uint8_t *out, siz
  * added, and 25 asks for it first (rule 5.5).
  *
  * A program that was written before there were amendments must be changed and built again: the function's name is the
- * same, but it takes two arguments more, so a compiler that reads this header notices. It is the count of arguments alone
- * that a compiler has to notice: that `plan` has nine numbers, eight before there was pay, and `member` five, four before
- * there was person, is no part of a type. */
+ * same, but it takes two arguments more, and a compiler that reads this header notices. That `plan` has nine numbers, eight
+ * before there was pay, and `member` five, four before there was person, is no part of a type: no compiler has to notice
+ * that. */
 uint64_t kuyeshan_value_member(const uint64_t plan[9], const uint64_t (*amendments)[4], size_t amendments_count,
                                const uint32_t rows[424], const uint64_t member[5], uint64_t figures[4]);
 
