@@ -1,5 +1,5 @@
 // Accepting a plan, its amendments, its rows and a member handed in as plain values, rules 5.3 to 5.6, in the order of the
-// lines: the rules of the heading and of the table, which crate `rules` has, between them those of the amendments, which crate
+// lines: the rules of the heading, which crate `rules` has, and of the table, which `row_rules` has, between them those of the amendments, which crate
 // `amendments` has, then those of a member, RULES section 4 and rule 7.8. A refusal is its number, and 0 is none. specs/ has what
 // every contract is an equation with, the order of the rules, in Acceptance; in Valued that the plan as it is valued is accepted too;
 // in Rising the law of rule 7.9 for a plan that is accepted; and in Lone that rule 7.10 refuses no lone member.

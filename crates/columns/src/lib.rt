@@ -1,5 +1,5 @@
 // T and Z for every pair of ages that is asked for, rules 8.6, 8.7 and 8.11: there is a column for each end age from 15 to 75,
-// with a place for every age, and it is filled when it is first needed, by the one fill of the crate annuity.
+// with a place for every age, and it is filled when it is first needed, by the one fill of the crate year_steps.
 // specs/Columns.antt says what the columns hold that are filled, and that they stay so; no other is read. Each `requires` is
 // what an accepted plan and member show.
 use rates::FIRST_AGE;
