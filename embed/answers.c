@@ -2,6 +2,8 @@
  *   f   It prints what reading and accepting answer, a line each; then, of each export that values it, a line with what it
  *       answers, the bytes of the buffer and the 16 after it, which were filled with FILL before.
  *   m   It prints the answer and the figures, which were filled before with what no figure can be.
+ *   w   It prints the answer and the count of bytes written, then the bytes of the buffer and the 16 after it. They were
+ *       painted before: no byte is like its neighbours, or like one of a text.
  * embed/run builds it; tests/library.py runs it for the tests that hold what it prints to another program. */
 #include <inttypes.h>
 #include <stdio.h>
@@ -48,6 +50,17 @@ static int answers_member(void) {
     return printf("\n") > 0;
 }
 
+static int answers_values(void) {
+    uint64_t written = UINT64_MAX;
+    for (size_t j = 0; j < sizeof out; j++) {
+        out[j] = 128 + j % 127;
+    }
+    uint64_t number = kuyeshan_write_case(plan, amendments, amendments_count, rows, members, members_count, out, room,
+                                          &written);
+    printf("write=%" PRIu64 ",%" PRIu64 "\n", number, written);
+    return fwrite(out, 1, room + AFTER, stdout) == room + AFTER;
+}
+
 int main(void) {
-    return !give_each(answers_file, answers_member) || fflush(stdout) != 0;
+    return !give_each(answers_file, answers_member, answers_values) || fflush(stdout) != 0;
 }

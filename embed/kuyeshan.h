@@ -28,11 +28,11 @@
  *     23  the age is below the entry age, or above the retirement age
  *     24  the salary is over 1000000.00 a year
  *     25  the benefit is over 1000000.00 a year
- *     27  a member line after 1,000 members
+ *     27  a member after 1,000 members
  *     28  the person's number isn't between 1 and 999999999
  *     29  the benefits of this person's lines so far sum to over 1000000.00 a year
  *   the calling program mends:
- *     30  what is to be printed is longer than the buffer
+ *     30  what is to be printed or written is longer than the buffer
  * 13 and 26 are retired, and never given again: 13 was for rates that sum to over 1000000, which rates for one cause alone
  * may do, and 26 for a benefit that falls, and none does.
  *
@@ -104,6 +104,23 @@ uint64_t kuyeshan_refusal_line(uint64_t number, uint64_t line, uint8_t *out, siz
  * that. */
 uint64_t kuyeshan_value_member(const uint64_t plan[9], const uint64_t (*amendments)[4], size_t amendments_count,
                                const uint32_t rows[424], const uint64_t member[5], uint64_t figures[4]);
+
+/* Writes a plan with its amendments, its rows and its members, all as plain numbers, as their case file. Read again it
+ * gives the same numbers, and no other bytes do.
+ *   plan, amendments, amendments_count, rows
+ *             as for kuyeshan_value_member; the unit stays the heading's, and every amendment is written, in force or not
+ *   members, members_count
+ *             the members, up to 1,000, and how many they are; there may be none. Each is five numbers, as `member` is for
+ *             kuyeshan_value_member, and its id is above the one before. What is said of casting the amendments goes for
+ *             them too
+ * 0: the file stands in the first *written bytes of `out`, with no 0 after them. Else the first refusal, which has no line:
+ * *written is 0. Bytes of `out` that no file takes stay as they were.
+ * First come the plan's refusals, as for kuyeshan_value_member; then 27, for more than 1,000 members; then those of the
+ * first wrong member, which is judged after the members before it: 21, 28, 22 to 25 and 29; last 30, where the file is
+ * longer than `out`. KUYESHAN_LARGEST bytes are always enough. */
+uint64_t kuyeshan_write_case(const uint64_t plan[9], const uint64_t (*amendments)[4], size_t amendments_count,
+                             const uint32_t rows[424], const uint64_t (*members)[5], size_t members_count, uint8_t *out,
+                             size_t out_length, uint64_t *written);
 
 #ifdef __cplusplus
 }

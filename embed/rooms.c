@@ -1,5 +1,6 @@
-/* rooms: what each export that writes does with a buffer that just fits, is one byte short, or is empty. Reads a case file
- * that is accepted; exits 1 where an answer or a byte of the buffer is not as promised. embed/run builds and runs it. */
+/* rooms: what each export that writes lines does with a buffer that just fits, is one byte short, or is empty. Reads a
+ * case file that is accepted; exits 1 where an answer or a byte of the buffer is not as promised. embed/run builds and
+ * runs it. */
 #include <stdio.h>
 #include <string.h>
 

@@ -12,7 +12,7 @@
 #include "kuyeshan.h"
 
 /* A call that takes more than is promised has room here too, so that it is measured. */
-enum { PAINT = 0xA5, STACK = 1 << 19, OF_FILE = 6, CALLS = 7 };
+enum { PAINT = 0xA5, STACK = 1 << 19, OF_FILE = 6, OF_MEMBER = OF_FILE, OF_VALUES, CALLS };
 
 static _Alignas(4096) uint8_t stack[STACK];
 static pthread_attr_t painted;
@@ -29,8 +29,11 @@ static void refuses(void) { kuyeshan_refusal_line(UINT64_MAX, UINT64_MAX, out, r
 static void values_member(void) {
     kuyeshan_value_member(plan, amendments, amendments_count, rows, member, figures);
 }
+static void writes_case(void) {
+    kuyeshan_write_case(plan, amendments, amendments_count, rows, members, members_count, out, room, &written);
+}
 
-/* Those that a case file is for, and the one for plain values. */
+/* Those that a case file is for, the one for a member in plain values, and the one for all values of a file. */
 static struct call {
     const char *name;
     void (*export)(void);
@@ -43,6 +46,7 @@ static struct call {
     {"value_shared", values_shared, 0},
     {"refusal_line", refuses, 0},
     {"value_member", values_member, 0},
+    {"write_case", writes_case, 0},
 };
 
 static void *run(void *call) {
@@ -74,12 +78,16 @@ static int measures_file(void) {
 }
 
 static int measures_member(void) {
-    return measure(&calls[OF_FILE]);
+    return measure(&calls[OF_MEMBER]);
+}
+
+static int measures_values(void) {
+    return measure(&calls[OF_VALUES]);
 }
 
 int main(int count, char **arguments) {
     if (count != 2 || pthread_attr_init(&painted) != 0 || pthread_attr_setstack(&painted, stack, STACK) != 0 ||
-        !give_each(measures_file, measures_member)) {
+        !give_each(measures_file, measures_member, measures_values)) {
         puts("there is no argument, no thread on the painted stack, or no such case");
         return 1;
     }

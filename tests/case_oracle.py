@@ -3,10 +3,9 @@
 An answer is None where the file is read, or accepted, and else the refusal's number and line (RULES section 12).
 """
 import re
-from collections import Counter
 
-from oracle import (AGES, MOST_AMENDMENTS, MOST_BENEFIT, Amendment, Member, Plan, amended, benefit, first, outside,
-                    refusal_of_member, refusal_of_row, refusal_of_unit, refusals_of_amendment, refusals_of_head)
+from oracle import (AGES, MOST_AMENDMENTS, Amendment, Member, MembersBefore, Plan, amended, first, refusal_of_row,
+                    refusal_of_unit, refusals_of_amendment, refusals_of_head)
 
 MOST_BYTES = 65536
 MOST_MEMBERS = 1000
@@ -97,7 +96,7 @@ def table(lines, ranges):
 
 
 def members(lines, plan, rows, ranges):
-    found, id_before, benefits = [], 0, Counter()
+    found, before = [], MembersBefore(plan, rows)
     while True:
         line = lines.next()
         if line.startswith(b'member='):
@@ -109,12 +108,8 @@ def members(lines, plan, rows, ranges):
             id, person, entry, age, dollars, cents = map(int, form.groups())
             member = Member(id, person, entry, age, 100 * dollars + cents)
             if ranges:
-                lines.refuse(refusal_of_member(plan, rows, member, id_before))
-                # Rule 7.10: what this person's lines come to, each B(r) in whole cents.
-                benefits[person] += benefit(plan, rows, member, plan.retire)
-                lines.refuse(outside(benefits[person], 0, MOST_BENEFIT, 29))
+                lines.refuse(before.refusal(member))
             found.append(member)
-            id_before = member.id
             continue
         form = re.fullmatch(rb'end=' + WHOLE, line)
         if not form:

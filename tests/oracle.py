@@ -5,6 +5,7 @@ from the crates but the codes of plain values, of crates/plan, and the sharper l
 
 Money is in cents. Rows are a dictionary from each age to its death, withdrawal, disability and weight.
 """
+from collections import Counter
 from fractions import Fraction
 from functools import cache, partial
 from typing import NamedTuple
@@ -26,6 +27,7 @@ PAYS = YEARLY, MONTHLY = 1, 12
 NO_PAYS = 0, 2, 11, 13
 FORMULAS = FLAT, CAREER, FINAL = 1, 2, 3
 METHODS = AB, BD, BP, CD, CP = 1, 2, 3, 4, 5
+FORMULA_NAMES = {FLAT: 'flat', CAREER: 'career', FINAL: 'final'}
 METHOD_NAMES = {AB: 'AB', BD: 'BD', BP: 'BP', CD: 'CD', CP: 'CP'}
 
 
@@ -166,7 +168,7 @@ def refusal_of_plan(plan, rows, amendments=()):
 
 def refusals_of_member(plan, rows, member, id_before):
     """Rules 4.2, 4.7, 4.3 to 4.5 and 7.8, in the order of rule 12.4, under an accepted plan, as it is amended. The benefit
-    is worked only where the others are 0. Rule 7.10 is for all lines of a person, and so it isn't here."""
+    is worked only where the others are 0. Rule 7.10 is for all lines of a person: MembersBefore has it."""
     yield outside(member.id, id_before + 1, MOST_NUMBER, 21)
     yield outside(member.person, 1, MOST_NUMBER, 28)
     yield outside(member.entry, FIRST, plan.retire - 1, 22)
@@ -178,6 +180,23 @@ def refusals_of_member(plan, rows, member, id_before):
 def refusal_of_member(plan, rows, member, id_before=0):
     """Rule 5.5: nobody stands before a lone member, and 0 is the id of nobody. Its benefit is all that its person has."""
     return first(refusals_of_member(plan, rows, member, id_before))
+
+
+class MembersBefore:
+    """What counts of the members before one (rule 12.4), under an accepted plan, as it is amended: the last id, and what
+    each person's benefits come to, each B(r) in whole cents. How many they are is for others to ask."""
+
+    def __init__(self, plan, rows):
+        self.plan, self.rows, self.id, self.benefits = plan, rows, 0, Counter()
+
+    def refusal(self, member):
+        """Of a member after these, which is one of them from then on. After a refusal no other is asked for."""
+        number = refusal_of_member(self.plan, self.rows, member, self.id)
+        if number:
+            return number
+        self.id = member.id
+        self.benefits[member.person] += benefit(self.plan, self.rows, member, self.plan.retire)
+        return outside(self.benefits[member.person], 0, MOST_BENEFIT, 29)
 
 
 def first(refusals):

@@ -20,6 +20,7 @@ import amendments
 import case_oracle
 import commands
 import persons
+import writing_oracle
 from accuracy_search import largest_salary
 from case_files import (ACCEPTING, FULL, HALF, OVER_HALF, amend, cut, damaged, file, filled, final_heading, good_files,
                         heading, many, member, ranges, spell, spells, stray_bytes, two_faults, worked_amendments,
@@ -28,7 +29,8 @@ from member_figures import (SHORT_CASE, at_ends, at_largest_benefit, dollars, dr
                             drawn_rates, drawn_weights, extreme_cases, straying_cases)
 from oracle import (BD, FINAL, METHOD_NAMES, MOST_AMENDMENTS, MOST_ASSETS, MOST_BENEFIT, MOST_NUMBER, MOST_SALARY,
                     NO_PAYS, PAYS, YEARLY, Member, Plan, amended, benefit, level_table, most_unit, short_table, table)
-from value_oracle import amount, exact_supplemental, lines, supplemental_limit, valued
+from value_oracle import exact_supplemental, lines, supplemental_limit, valued
+from writing_oracle import Values
 
 ROOT = Path(__file__).parent.parent
 PROGRAM = ROOT / 'target' / 'bin' / 'value'
@@ -36,7 +38,6 @@ EXAMPLES = ROOT / 'examples'
 # Those with tables that are like real ones. In the short table all live to 65 and nobody longer, and two-spells and amended
 # have the table of final-pay.
 REAL = 'final-pay.case', 'textbook.case'
-FORMULA_NAMES = {1: 'flat', 2: 'career', 3: 'final'}
 # No output is longer. A member line has an id of 9 digits, a B(r) of up to 1000000.00, and a V, N and L of less than
 # 100000000.00 each, since A(50) is at most 71: 64 bytes. So the lines fit the program's buffer, and 30 can't occur.
 LONGEST = 64112
@@ -46,10 +47,7 @@ DRAWN, SEED = 2000, 11
 
 def case_file(plan, rows, members, listed=()):
     """The case file of plain values, `listed` being the amendments. The plan has the heading's unit."""
-    named = plan._replace(formula=FORMULA_NAMES[plan.formula], method=METHOD_NAMES[plan.method],
-                          assets=amount(plan.assets))
-    head = heading(**named._asdict()) + [amend(*one) for one in listed]
-    return file(head, rows, [member(m.id, m.entry, m.age, amount(m.salary), m.person) for m in members])
+    return writing_oracle.case_file(Values(plan, listed, rows, members))
 
 
 def answer(case):

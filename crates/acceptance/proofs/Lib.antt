@@ -1,5 +1,1 @@
--- What accepting shows.
-pub mod Facts
-pub mod ValuedLaws
-pub mod SumLaws
-pub mod LoneLaws
+pub mod BenefitLaws

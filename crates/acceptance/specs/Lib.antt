@@ -1,4 +1,1 @@
-pub mod Acceptance
-pub mod Rising
-pub mod Lone
-pub mod Valued
+pub mod Answers

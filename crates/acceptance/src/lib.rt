@@ -1,10 +1,8 @@
-// Accepting a plan, its amendments, its rows and a member handed in as plain values, rules 5.3 to 5.6, in the order of the
-// lines: the rules of the heading, which crate `rules` has, and of the table, which `row_rules` has, between them those of the amendments, which crate
-// `amendments` has, then those of a member, RULES section 4 and rule 7.8. A refusal is its number, and 0 is none. specs/ has what
-// every contract is an equation with, the order of the rules, in Acceptance; in Valued that the plan as it is valued is accepted too;
-// in Rising the law of rule 7.9 for a plan that is accepted; and in Lone that rule 7.10 refuses no lone member.
-use amendments::amendments_refusal;
-use amendments::as_valued;
+// Accepting a plan, its amendments, its rows and a member handed in as plain values, rules 5.3 to 5.6, by the rules in their
+// order, which crate `rule_order` has: the first refusal. A refusal is its number, and 0 is none. specs/Answers.antt has what is
+// answered.
+use amending::amendments_refusal;
+use amending::as_valued;
 use plan::Member;
 use plan::Plan;
 use plan::benefit::accrued_benefit;
@@ -30,10 +28,11 @@ ghost use Rattle.rules.specs.Rules.{firstOf};
 ghost use Rattle.rules.specs.Rules.{unless as Rules·unless, between as Rules·between};
 ghost use Rattle.plan.specs.Benefit.{B};
 ghost use Rattle.amendments.specs.Force.{amendmentsFrom};
-ghost use Rattle.acceptance.specs.Acceptance.{planRefusal, amendedRefusal, fieldRules, memberRefusal, loneRefusal, benefitOr, acceptanceOf};
+ghost use Rattle.rule_order.specs.Acceptance.{planRefusal, amendedRefusal, fieldRules, memberRefusal, loneRefusal};
+ghost use Rattle.acceptance.specs.Answers.{benefitOr, acceptanceOf};
 
 // The heading, the amendments and the rows.
-fn plan_refusal(p: Plan, amendments: &[[u64; 4]], rows: Rows) -> u64
+pub fn plan_refusal(p: Plan, amendments: &[[u64; 4]], rows: Rows) -> u64
     ensures { λ r. ⌜ r ≡ amendedRefusal p (amendmentsFrom (now (amendments .entry))) rows ⌝ }
 {
     let later = or_else(amendments_refusal(p, amendments), rows_refusal(rows));

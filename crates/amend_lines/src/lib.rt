@@ -1,7 +1,7 @@
 // The amendments of a case file, rule 2.11: the lines after the terms that begin amend=, up to the first that doesn't.
-use amendments::amendment_rule;
-use amendments::fields_rule;
-use amendments::unit_rule;
+use amending::amendment_rule;
+use amending::fields_rule;
+use amending::unit_rule;
 use fields::Line;
 use fields::Read;
 use fields::text::from;

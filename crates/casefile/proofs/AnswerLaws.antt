@@ -5,14 +5,14 @@ use mathlib.Core.List.{List}
 use mathlib.Core.Bool.{true, false}
 use Rattle.plan.specs.declared.Plan.{Plan}
 use Rattle.walk.specs.Walk.{walkOf}
-use Rattle.casefile.specs.declared.Walked.{Walked}
-use Rattle.casefile.specs.declared.Walked.the-variants.{Whole, Refused}
+use Rattle.whole_walk.specs.declared.Walked.{Walked}
+use Rattle.whole_walk.specs.declared.Walked.the-variants.{Whole, Refused}
 use Rattle.casefile.specs.declared.Reading.the-variants.{Read, Refused as ReadingRefused}
 use Rattle.casefile.specs.declared.Accepting.{Accepting}
 use Rattle.casefile.specs.declared.Accepting.the-variants.{Accepted, Refused as AcceptingRefused}
 use Rattle.casefile.specs.Answers.{readingOf, acceptingOf, accepting}
 use Rattle.casefile.specs.Stored.{amendmentsAfter, rowsAfter, membersAfter}
-use Rattle.casefile.specs.Stretch.{WalkIs}
+use Rattle.whole_walk.specs.Stretch.{WalkIs}
 
 -- ---- reading
 module _ (s : List ℕ) (w : Walked) (list rows members : List (List ℕ)) (walked : WalkIs false (walkOf false s) w list rows members) where

@@ -11,7 +11,7 @@ use Rattle.walk.specs.Lines.{mostMembers}
 use Rattle.walk.specs.Walk.{Case, valuedPlan}
 use Rattle.amendments.specs.Judging.{mostAmendments}
 use Rattle.amendments.proofs.Keeping.{list-kept, few-listed}
-use Rattle.acceptance.proofs.ValuedLaws.{amended-kept, valued-is-accepted}
+use Rattle.rule_order.proofs.ValuedLaws.{amended-kept, valued-is-accepted}
 use Rattle.amend_lines.specs.Array.{listArray}
 use Rattle.amend_lines.proofs.ArrayLaws.{list-front, list-size}
 use Rattle.walk.specs.Kept.{idBefore, AcceptedCase}

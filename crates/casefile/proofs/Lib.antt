@@ -1,4 +1,3 @@
--- The laws of the reader: the parts one after the other, the answers, and what the arrays then hold.
-pub mod WalkLaws
+-- The laws of the reader: the answers, and what the arrays then hold.
 pub mod AnswerLaws
 pub mod Arrays

@@ -4,7 +4,7 @@ use mathlib.Core.Path.{_≡_}
 use mathlib.Core.List.{List}
 use lib.ListN.{length, take}
 use Rattle.plan.specs.declared.Plan.{Plan}
-use Rattle.acceptance.specs.Acceptance.{planRefusal, memberRefusal}
+use Rattle.rule_order.specs.Acceptance.{planRefusal, memberRefusal}
 use Rattle.walk.specs.Outcome.{Outcome, values, refusal}
 use Rattle.walk.specs.Lines.{mostMembers}
 use Rattle.walk.specs.Walk.{Case}

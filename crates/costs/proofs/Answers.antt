@@ -7,10 +7,10 @@ use Rattle.plan.specs.declared.Plan.{Plan}
 use Rattle.plan.specs.declared.Amendment.{Amendment}
 use Rattle.plan.specs.declared.Member.{Member}
 use Rattle.amendments.specs.Force.{asValued}
-use Rattle.acceptance.specs.Acceptance.{loneRefusal}
+use Rattle.rule_order.specs.Acceptance.{loneRefusal}
 use Rattle.plan.specs.Ranges.{MemberRanges}
-use Rattle.acceptance.proofs.Facts.{member-facts}
-use Rattle.acceptance.proofs.ValuedLaws.{valued-is-accepted}
+use Rattle.rule_order.proofs.Facts.{member-facts}
+use Rattle.rule_order.proofs.ValuedLaws.{valued-is-accepted}
 use Rattle.costs.specs.declared.Figures.{Figures}
 use Rattle.costs.specs.declared.Valuation.the-variants.{Valued, Refused}
 use Rattle.costs.specs.Valuation.{methodOf, settingOf, figuresAt, figures, Limited, valuation, Accepted, Demand-3-Forms, Demand-3-Limits, Demand-3-Sharp-Limits}

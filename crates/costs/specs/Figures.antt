@@ -22,7 +22,7 @@ use Rattle.rules.specs.Heading.{headRules}
 use Rattle.row_rules.specs.Table.{rowsRefusal, rowRules}
 use Rattle.amendments.specs.Force.{listed, stands, inForceAfter, additions, unitValued, asValued, amend}
 use Rattle.amendments.specs.Judging.{amendmentRules, unitRefusal, eachRefusal, amendmentsRefusal}
-use Rattle.acceptance.specs.Acceptance.{loneRefusal, amendedRefusal, planRefusal, lineRefusal, memberRefusal, fieldRules, benefitRules}
+use Rattle.rule_order.specs.Acceptance.{loneRefusal, amendedRefusal, planRefusal, lineRefusal, memberRefusal, fieldRules, benefitRules}
 use Rattle.costs.specs.Setting.{Setting}
 use Rattle.costs.specs.Costs.{W, PV, cost, N, L}
 use Rattle.costs.specs.Valuation.{settingOf}

@@ -14,7 +14,7 @@ use Rattle.plan.specs.declared.Method.{Method}
 use Rattle.plan.specs.declared.Method.the-variants.{AB, BD, BP, CD, CP}
 use Rattle.plan.specs.Benefit.{B}
 use Rattle.amendments.specs.Force.{asValued}
-use Rattle.acceptance.specs.Acceptance.{amendedRefusal, memberRefusal, loneRefusal}
+use Rattle.rule_order.specs.Acceptance.{amendedRefusal, memberRefusal, loneRefusal}
 use Rattle.costs.specs.declared.Figures.{Figures}
 use Rattle.costs.specs.declared.Valuation.{Valuation}
 use Rattle.costs.specs.declared.Valuation.the-variants.{Valued, Refused}

@@ -16,7 +16,7 @@ use Rattle.fields.proofs.AnswerLaws.{Answers, answers-unread}
 use Rattle.fields.proofs.ValueLaws.{prefix-none, Along}
 
 -- a key that s begins with, and the rest
-starts-split : (key s : List ℕ) → startsOf key s ≡ true → s ≡ key ++ drop (length key) s
+pub starts-split : (key s : List ℕ) → startsOf key s ≡ true → s ≡ key ++ drop (length key) s
 starts-split [] s e = refl
 starts-split (k ∷ key) [] e = off (sym e)
 starts-split (k ∷ key) (x ∷ s) e =
@@ -24,7 +24,7 @@ starts-split (k ∷ key) (x ∷ s) e =
     let rest = starts-split key s (and-true-right (eqb x k) (startsOf key s) e) in
     λ i. first i ∷ rest i
 
-drop-key : (key r : List ℕ) → drop (length key) (key ++ r) ≡ r
+pub drop-key : (key r : List ℕ) → drop (length key) (key ++ r) ≡ r
 drop-key [] r = refl
 drop-key (k ∷ key) r = drop-key key r
 

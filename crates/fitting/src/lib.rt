@@ -1,13 +1,13 @@
 // What fits: the lines of a report, or the line of a refusal, are written whole at the start of the buffer, or the answer
 // is refusal 30 and the buffer as it was. Each is measured before it is written, unless it surely fits. `refusal_line` is an
 // entry and has no `requires`; `fit_lines` asks what accepted members show.
+use all_figures::Worked;
 use plan::Members;
 use report::write_lines;
 use report::write_refusal;
 use rounding::Signed;
 use rules::refusals::NO_ROOM;
 use totals::Totals;
-use totals::Worked;
 ghost use mathlib.Core.Path.{_≡_};
 ghost use mathlib.Core.List.{_++_};
 ghost use Prim.Native.Nat.{_≤_};

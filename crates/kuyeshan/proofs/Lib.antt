@@ -1,2 +1,1 @@
-mod AnswerLaws
 pub mod Numbered

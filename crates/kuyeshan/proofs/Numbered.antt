@@ -7,19 +7,22 @@ use borrow.Author.Tests.{ne-eqb}
 use lib.Dec.{leb, eqb}
 use lib.ListN.{length}
 use Rattle.amendments.specs.Force.{asValued}
-use Rattle.acceptance.specs.Acceptance.{loneRefusal}
-use Rattle.walk.specs.Outcome.{Outcome, values, refusal, andThen}
+use Rattle.rule_order.specs.Acceptance.{loneRefusal}
+use Rattle.walk.specs.Outcome.{Outcome, values, refusal, andThen, passing}
 use Rattle.walk.specs.Answers.{Section, FormOf, term-cut, term-form, amend-cut, amend-form, twenty-first, row-cut, row-form, tail-cut, count, tail-form, surplus, after-end, RangeOf, of-a-term, of-average, of-a-field, of-order, of-rest, of-unit, of-a-rate, of-death, of-weight, of-id, of-person, of-entry, of-age, of-salary, of-benefit, of-sum, Placed, no-line, of-form, of-range}
 use Rattle.walk.proofs.Theorems.{refusals-are-placed}
 use Rattle.walk.specs.Walk.{valuedPlan}
 use Rattle.casefile.specs.Answers.{acceptingOf}
+use Rattle.judging.specs.Refusing.{caseRefusal}
+use Rattle.written.specs.Written.{written}
 use Rattle.costs.specs.declared.Figures.{Figures}
 use Rattle.costs.specs.declared.Valuation.the-variants.{Valued, Refused}
 use Rattle.costs.specs.Valuation.{figures, valuation}
 use Rattle.report.specs.Lines.{printed}
 use Rattle.fitting.specs.Fitting.{fitting}
 use Rattle.valuation.specs.Answers.{valuedOf}
-use Rattle.kuyeshan.specs.Statements.{Numbered, ReadingNumbered, AcceptingNumbered, ValuingNumbered, FittingNumbered, MemberNumbered}
+use Rattle.writer.specs.Files.{fileOf}
+use Rattle.kuyeshan.specs.Statements.{Numbered, ReadingNumbered, AcceptingNumbered, ValuingNumbered, FittingNumbered, WritingNumbered, MemberNumbered}
 
 form-above : {section : Section} {n : ℕ} → FormOf section n → 0 < n
 form-above term-cut = omega arith
@@ -83,6 +86,18 @@ pub valuing-numbered : ValuingNumbered
 unfolding valuedOf
 valuing-numbered room case =
     then-numbered (acceptingOf case) _ (accepting-numbered case) (λ c. fitting-numbered room (printed (valuedPlan c) (c .rows) (c .members)))
+
+passing-numbered : {A : Type 0} (refused line : ℕ) (o : Outcome A) → Numbered o → Numbered (passing refused line o)
+passing-numbered zero line o after = after
+passing-numbered (suc n) line o after = λ number place is.
+    let refused = rw (ne-eqb (suc n) 0 (omega arith)) at is in
+    let e : suc n ≡ number = cc in
+    omega arith
+
+pub writing-numbered : WritingNumbered
+unfolding fileOf
+writing-numbered room c =
+    passing-numbered (caseRefusal c) 0 (fitting room (written c)) (fitting-numbered room (written c))
 
 -- ---- plain values
 pub member-numbered : MemberNumbered

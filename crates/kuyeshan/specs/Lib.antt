@@ -1,4 +1,2 @@
--- What the exports answer, as plain numbers, and what is stated of it.
-pub mod Answers
-pub mod Values
+-- What is stated of the exports beside their contracts.
 pub mod Statements

@@ -7,12 +7,13 @@ use Rattle.plan.specs.declared.Plan.{Plan}
 use Rattle.plan.specs.declared.Amendment.{Amendment}
 use Rattle.plan.specs.declared.Member.{Member}
 use Rattle.walk.specs.Outcome.{Outcome, refusal}
-use Rattle.walk.specs.Walk.{walkOf}
+use Rattle.walk.specs.Walk.{Case, walkOf}
 use Rattle.casefile.specs.Answers.{acceptingOf}
 use Rattle.costs.specs.declared.Valuation.the-variants.{Refused}
 use Rattle.costs.specs.Valuation.{valuation}
 use Rattle.fitting.specs.Fitting.{fitting}
 use Rattle.valuation.specs.Answers.{valuedOf}
+use Rattle.writer.specs.Files.{fileOf}
 
 -- a refusal has a number above 0
 abbrev pub Numbered : {A : Type 0} → Outcome A → Type 0
@@ -29,6 +30,9 @@ ValuingNumbered = (room : ℕ) (case : List ℕ) → Numbered (valuedOf room cas
 
 abbrev pub FittingNumbered : Type 0
 FittingNumbered = (room : ℕ) (lines : List ℕ) → Numbered (fitting room lines)
+
+abbrev pub WritingNumbered : Type 0
+WritingNumbered = (room : ℕ) (c : Case) → Numbered (fileOf room c)
 
 -- the same of plain values
 abbrev pub MemberNumbered : Type 0

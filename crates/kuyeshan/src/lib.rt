@@ -1,4 +1,4 @@
-// The library for programs in C and Rust: the entries of valuation, fitting, casefile and plain_engine, exported under C names. An export
+// The library for programs in C and Rust: the entries of valuation, writer, fitting, casefile and plain_engine, exported under C names. An export
 // answers a refusal's number, 0 for none; a line or a count goes to a place that the caller lends. None has a
 // `requires`, and every place that is lent has its equation on every path. embed/kuyeshan.h declares them for C.
 use casefile::Accepting;
@@ -7,11 +7,11 @@ use costs::Valuation;
 use fitting::Answer;
 use plan::MOST_AMENDMENTS;
 use plan::MOST_MEMBERS;
-use plan::Member;
 use plan::Terms;
 use rates::AGES;
 use rates::Rows;
 use rules::terms::plan_from;
+use tails::member_from;
 use totals::EngineChoice;
 ghost use mathlib.Core.Path.{_≡_};
 ghost use mathlib.Core.Bool.{false};
@@ -20,13 +20,15 @@ ghost use Rattle.rules.specs.Heading.{planFrom};
 ghost use Rattle.amendments.specs.Force.{amendmentsFrom};
 ghost use Rattle.walk.specs.Walk.{walkOf};
 ghost use Rattle.casefile.specs.Answers.{acceptingOf};
+ghost use Rattle.judging.specs.Refusing.{plainCase};
 ghost use Rattle.costs.specs.Valuation.{valuation};
 ghost use Rattle.report.specs.Lines.{refusalLine};
 ghost use Rattle.fitting.specs.Fitting.{fitting, buffer};
 ghost use Rattle.valuation.specs.Answers.{valuedOf};
-ghost use Rattle.kuyeshan.specs.Answers.{numberOf, lineNumberOf, writtenOf};
+ghost use Rattle.writer.specs.Files.{fileOf};
+ghost use Rattle.answer_numbers.specs.Answers.{numberOf, lineNumberOf, writtenOf};
 ghost use Rattle.walk.specs.Lines.{memberFrom};
-ghost use Rattle.kuyeshan.specs.Values.{refusedBy, figuresAfter};
+ghost use Rattle.answer_numbers.specs.Values.{refusedBy, figuresAfter};
 
 // Rule 5.1: reads a case file for its form.
 #[no_mangle]
@@ -181,7 +183,7 @@ pub extern "C" fn kuyeshan_value_member(
     ensures { λ _. ⌜ now (figures .exit) ≡ figuresAfter (valuation (planFrom (now (plan .entry))) (amendmentsFrom (now (amendments .entry))) (now (rows .entry)) (memberFrom (now (member .entry)))) (now (figures .entry)) ⌝ }
 {
     let p = plan_from(plan);
-    let m = member_of(member);
+    let m = member_from(member);
     match plain_engine::value_member(p, amendments, *rows, m) {
         Valuation::Valued(f) => {
             *figures = [f.benefit, f.value, f.cost, f.liability];
@@ -191,14 +193,30 @@ pub extern "C" fn kuyeshan_value_member(
     }
 }
 
-fn member_of(numbers: &[u64; 5]) -> Member
-    ensures { λ m. ⌜ m ≡ memberFrom (now (numbers .entry)) ⌝ }
+// Rules 5.7 and 13.6: writes the case file of a plan with its amendments, its rows and its members, all of them plain numbers, at the
+// start of `out`. A refusal leaves `out` as it was; its line would be 0.
+#[no_mangle]
+pub extern "C" fn kuyeshan_write_case(
+    plan: &Terms,
+    amendments: &[[u64; 4]],
+    rows: &Rows,
+    members: &[[u64; 5]],
+    out: &mut [u8],
+    written: &mut u64,
+) -> u64
+    ensures { λ r. ⌜ r ≡ numberOf (fileOf (length (now (out .entry))) (plainCase (planFrom (now (plan .entry))) (now (amendments .entry)) (now (rows .entry)) (now (members .entry)))) ⌝ }
+    ensures { λ _. ⌜ now (out .exit) ≡ buffer (fileOf (length (now (out .entry))) (plainCase (planFrom (now (plan .entry))) (now (amendments .entry)) (now (rows .entry)) (now (members .entry)))) (now (out .entry)) ⌝ }
+    ensures { λ _. ⌜ now (written .exit) ≡ writtenOf (fileOf (length (now (out .entry))) (plainCase (planFrom (now (plan .entry))) (now (amendments .entry)) (now (rows .entry)) (now (members .entry)))) ⌝ }
 {
-    Member {
-        id: numbers[0],
-        person: numbers[1],
-        entry: numbers[2],
-        age: numbers[3],
-        salary: numbers[4],
+    let p = plan_from(plan);
+    match writer::write_case(p, amendments, *rows, members, out) {
+        Answer::Written(n) => {
+            *written = n as u64;
+            0
+        }
+        Answer::Refused(number, _) => {
+            *written = 0;
+            number
+        }
     }
 }

@@ -13,8 +13,8 @@ use Rattle.fields.specs.Split.{hasOf, uptoOf, pastOf}
 use Rattle.plan.specs.declared.Plan.{Plan}
 use Rattle.plan.specs.declared.Member.{Member}
 use Rattle.plan.specs.Benefit.{B}
-use Rattle.acceptance.specs.Acceptance.{personSum, lineRefusal}
-use Rattle.acceptance.proofs.SumLaws.{sum-next}
+use Rattle.rule_order.specs.Acceptance.{personSum, lineRefusal}
+use Rattle.rule_order.proofs.SumLaws.{sum-next}
 use Rattle.persons.specs.Held.{held as held-for}
 use Rattle.persons.specs.Search.{Rooted}
 use Rattle.persons.proofs.HeldLaws.{held-zeros}
@@ -25,25 +25,20 @@ use Rattle.walk.specs.Step.{Head, people, ended, wrong, right, lastId, refusalA
 use Rattle.walk.specs.Walk.{caseOf, walkFrom}
 use Rattle.walk.proofs.OutcomeLaws.{settled-none}
 use Rattle.walk.proofs.LineLaws.{from-line, from-end}
-use Rattle.walk.proofs.StepLaws.{full-none}
+use Rattle.walk.proofs.StepLaws.{last-id, full-none}
 use Rattle.stretches.proofs.StretchLaws.{line-cut, line-wrong, line-refused, line-passed, next-rest, next-within}
-use Rattle.members.specs.declared.Kind.{Kind}
-use Rattle.members.specs.declared.Kind.the-variants.{Listed, End, Surplus, Neither, Cut}
+use Rattle.tails.specs.declared.Kind.{Kind}
+use Rattle.tails.specs.declared.Kind.the-variants.{Listed, End, Surplus, Neither, Cut}
 use Rattle.members.specs.declared.Count.{Count}
 use Rattle.members.specs.declared.Count.the-variants.{Counted, Refused}
 use Rattle.stretches.specs.Arrays.{filled}
 use Rattle.members.specs.Array.{numbersOf, arrayOf}
-use Rattle.members.specs.Tails.{kindOf, TailHeld}
+use Rattle.tails.specs.Tails.{kindOf, TailHeld}
 use Rattle.members.specs.Stretch.{SameHead, MembersAre, endCount}
-use Rattle.members.proofs.LineLaws.{tail-cut, tail-surplus, tail-neither, tail-listed, tail-end}
+use Rattle.tails.proofs.LineLaws.{tail-cut, tail-surplus, tail-neither, tail-listed, tail-end}
 use Rattle.members.proofs.ArrayLaws.{array-next}
 
--- ---- the id before, and the room that is left
-last-id : (l : List Member) (m : Member) → lastId (l ++ m ∷ []) ≡ m .id
-last-id [] m = refl
-last-id (a ∷ []) m = refl
-last-id (a ∷ b ∷ l) m = last-id (b ∷ l) m
-
+-- ---- the room that is left
 full-same : (count : ℕ) → count ≤ 1000 → eqb count 1000 ≡ leb mostMembers count
 full-same count few = ⊎-elim
     (λ (e : count ≡ 1000). eq-eqb count 1000 e ∙ sym (le-leb mostMembers count (omega arith)))

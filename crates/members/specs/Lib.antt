@@ -1,4 +1,3 @@
--- What a line after the rows gives, the array of the members, and the loop over them.
-pub mod Tails
+-- The array of the members, and the loop over their lines.
 pub mod Array
 pub mod Stretch

@@ -4,7 +4,7 @@
 mod annuities;
 
 use acceptance::lone_refusal;
-use amendments::as_valued;
+use amending::as_valued;
 use costs::Figures;
 use costs::Valuation;
 use parts::figures_from;

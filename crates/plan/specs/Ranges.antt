@@ -1,5 +1,5 @@
 -- What the ranges of RULES sections 2, 3 and 4 leave of a plan, its rows and a member; among it is all that the benefit and
--- the methods ask of them. Accepting shows it (crate `acceptance`).
+-- the methods ask of them. Accepting shows it (crate `rule_order`).
 use mathlib.Core.Path.{_≡_}
 use mathlib.Core.Logic.{_⊎_}
 use mathlib.Core.List.{List}

@@ -41,6 +41,11 @@ pub whole-most : (w n : ℕ) → n < 10 ^ suc w → length (wholeNumber n) ≤ s
 unfolding wholeNumber width
 whole-most w n h = rw (digits-length (widthUpTo n n) n) (no-wider w n n h)
 
+-- an amount of so many digits before its point
+pub amount-most : (w cents : ℕ) → cents / 100 < 10 ^ suc w → length (amount cents) ≤ w + 4
+unfolding amount
+amount-most w cents h = simp (length-append, digits-length 2 cents) (omega (arith, whole-most w (cents / 100) h))
+
 pub width-one : (n : ℕ) → n < 10 → width n ≡ 1
 unfolding width
 width-one zero h = refl

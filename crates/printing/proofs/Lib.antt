@@ -1,4 +1,3 @@
 -- Laws that no function owns.
 pub mod SetsLaws
 pub mod AmountLaws
-pub mod LineLaws

@@ -2,7 +2,7 @@
 use mathlib.Core.Path.{refl}
 use mathlib.Core.Bool.{Bool, true, false, cond, _&&_}
 use mathlib.Core.List.{List, _∷_}
-use Prim.Native.Nat.{ℕ, zero, suc, _+_, _*_, _/_, _^_, _≤_, _<_}
+use Prim.Native.Nat.{ℕ, zero, suc, _+_, _*_, _^_, _≤_, _<_}
 use native.Mathlib.Omega.{arith}
 use lib.Dec.{ltb}
 use lib.ListN.{length, length-append}
@@ -11,16 +11,11 @@ use Rattle.rounding.specs.Signed.{integerOf}
 use Rattle.costs.specs.declared.Figures.{Figures}
 use Rattle.fields.specs.Text.{bytes}
 use Rattle.printing.specs.Amounts.{amount}
-use Rattle.printing.specs.Lines.{fields, amountsLine, signedLine}
-use Rattle.printing.proofs.AmountLaws.{whole-most, digits-length, signed-parts}
+use Rattle.printed_lines.specs.Lines.{fields, amountsLine, signedLine}
+use Rattle.printing.proofs.AmountLaws.{whole-most, amount-most, signed-parts}
 use Rattle.totals.specs.declared.Totals.{Totals}
 use Rattle.report.specs.Lines.{figuresLine, totalLine, planLines}
 use Rattle.report.specs.MemberLines.{linesIn, ShortLine, ShortLines}
-
--- an amount of so many digits before its point
-amount-most : (w cents : ℕ) → cents / 100 < 10 ^ suc w → length (amount cents) ≤ w + 4
-unfolding amount
-amount-most w cents h = simp (length-append, digits-length 2 cents) (omega (arith, whole-most w (cents / 100) h))
 
 pub figures-line-most : (id : ℕ) (f : Figures) → ShortLine id f → length (figuresLine id f) ≤ 64
 unfolding figuresLine amountsLine fields

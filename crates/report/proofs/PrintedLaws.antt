@@ -13,14 +13,14 @@ use Rattle.factors.specs.Factors.{S, C}
 use Rattle.plan.specs.declared.Plan.{Plan}
 use Rattle.plan.specs.declared.Member.{Member}
 use Rattle.members.specs.Array.{memberAt}
-use Rattle.printing.specs.Lines.{pairLine}
+use Rattle.printed_lines.specs.Lines.{pairLine}
 use Rattle.printing.specs.Puts.{Puts}
 use Rattle.printing.proofs.AmountLaws.{whole-most}
 use Rattle.printing.proofs.SetsLaws.{_then_}
 use Rattle.totals.specs.declared.Totals.{Totals}
 use Rattle.totals.specs.Totals.{totals, unfunded, supplemental}
-use Rattle.totals.specs.Worked.{figuresIn, membersIn, AreWorked}
-use Rattle.totals.proofs.TotalLaws.{integer-signed}
+use Rattle.all_figures.specs.Worked.{figuresIn, membersIn, AreWorked}
+use Rattle.funding.proofs.FundingLaws.{integer-signed}
 use Rattle.report.specs.Lines.{figuresLine, memberLine, memberLines, planLines, printed, refusalLine}
 use Rattle.report.specs.MemberLines.{linesIn}
 

@@ -8,7 +8,7 @@ use Rattle.plan.specs.declared.Member.{Member}
 use Rattle.costs.specs.declared.Figures.{Figures}
 use Rattle.costs.specs.Valuation.{figures}
 use Rattle.fields.specs.Text.{bytes}
-use Rattle.printing.specs.Lines.{amountsLine, signedLine, pairLine}
+use Rattle.printed_lines.specs.Lines.{amountsLine, signedLine, pairLine}
 use Rattle.totals.specs.declared.Totals.{Totals}
 use Rattle.totals.specs.Totals.{totals, unfunded, supplemental}
 

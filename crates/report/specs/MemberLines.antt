@@ -3,7 +3,7 @@ use mathlib.Core.List.{List, [], _++_}
 use Prim.Native.Nat.{ℕ, zero, suc, _≤_, _<_}
 use Rattle.costs.specs.declared.Figures.{Figures}
 use Rattle.members.specs.Array.{memberAt}
-use Rattle.totals.specs.Worked.{figuresIn, Small}
+use Rattle.all_figures.specs.Worked.{figuresIn, Small}
 use Rattle.report.specs.Lines.{figuresLine}
 
 -- the lines of the first n members

@@ -1,18 +1,18 @@
 // The lines of a report, RULES section 13: those of the members and of the plan, or the one line of a refusal. A writer
 // puts them at their place and answers the place after them; with no bytes to write to it measures. Each `requires` is what accepted
 // members show.
+use all_figures::Worked;
+use all_figures::figures_at;
+use all_figures::member_at;
 use costs::Figures;
 use plan::Members;
-use printing::lines::write_end;
-use printing::lines::write_field;
-use printing::lines::write_pair_line;
-use printing::lines::write_signed_line;
-use printing::lines::write_start;
+use printed_lines::write_end;
+use printed_lines::write_field;
+use printed_lines::write_pair_line;
+use printed_lines::write_signed_line;
+use printed_lines::write_start;
 use rounding::Signed;
 use totals::Totals;
-use totals::Worked;
-use totals::figures_at;
-use totals::member_at;
 ghost use mathlib.Core.List.{_++_};
 ghost use Prim.Native.Nat.{_+_, _^_, _≤_, _<_};
 ghost use Rattle.rounding.specs.Signed.{integerOf};

@@ -15,11 +15,11 @@ use Rattle.factors.proofs.Sizes.{C-least}
 use Rattle.plan.specs.declared.Plan.{Plan}
 use Rattle.plan.specs.declared.Member.{Member}
 use Rattle.plan.specs.Ranges.{MemberRanges}
-use Rattle.acceptance.proofs.Facts.{plan-facts, id-small, member-facts}
+use Rattle.rule_order.proofs.Facts.{plan-facts, id-small, member-facts}
 use Rattle.costs.specs.declared.Figures.{Figures}
 use Rattle.costs.specs.Valuation.{figures}
 use Rattle.parts.proofs.FigureSizes.{SmallFigures, figures-small}
-use Rattle.acceptance.proofs.ValuedLaws.{valued-is-accepted}
+use Rattle.rule_order.proofs.ValuedLaws.{valued-is-accepted}
 use Rattle.walk.specs.Walk.{valuedPlan}
 use Rattle.walk.specs.Kept.{nobody, idBefore}
 use Rattle.walk.proofs.Accepted.{accepted-keeps}

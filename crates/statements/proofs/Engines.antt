@@ -8,14 +8,14 @@ use Rattle.plan.specs.declared.Plan.{Plan}
 use Rattle.plan.specs.declared.Member.{Member}
 use Rattle.plan.specs.declared.Method.{Method}
 use Rattle.plan.specs.Ranges.{MemberRanges}
-use Rattle.acceptance.proofs.Facts.{member-facts}
+use Rattle.rule_order.proofs.Facts.{member-facts}
 use Rattle.costs.specs.declared.Figures.{Figures}
 use Rattle.costs.specs.Valuation.{methodOf, figures}
 use Rattle.parts.specs.declared.Parts.{Parts}
 use Rattle.parts.specs.Parts.{figuresFrom}
 use Rattle.parts.proofs.PartLaws.{own-figures}
 use Rattle.walk.specs.Outcome.{Outcome, values, refusal, andThen}
-use Rattle.acceptance.proofs.ValuedLaws.{valued-is-accepted}
+use Rattle.rule_order.proofs.ValuedLaws.{valued-is-accepted}
 use Rattle.walk.specs.Walk.{valuedPlan}
 use Rattle.walk.specs.Kept.{nobody, idBefore}
 use Rattle.walk.proofs.Accepted.{accepted-keeps}

@@ -4,8 +4,8 @@ pub mod TotalSums
 pub mod FileLines
 pub mod LineEnds
 pub mod LoneMember
-pub mod ReadBack
 pub mod AmountSizes
 pub mod NoAdditions
+pub mod HandedOn
 pub mod Statements
 pub mod Engines

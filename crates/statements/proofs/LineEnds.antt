@@ -15,7 +15,7 @@ use Rattle.plan.specs.declared.Plan.{Plan}
 use Rattle.plan.specs.declared.Member.{Member}
 use Rattle.walk.specs.Kept.{nobody}
 use Rattle.printing.specs.Amounts.{digits, wholeNumber, amount}
-use Rattle.printing.specs.Lines.{fields, amountsLine}
+use Rattle.printed_lines.specs.Lines.{fields, amountsLine}
 use Rattle.report.specs.Lines.{figuresLine, memberLine, memberLines}
 use Rattle.statements.specs.LinesOf.{linesPast}
 

@@ -12,8 +12,8 @@ use Rattle.plan.specs.declared.Amendment.{Amendment}
 use Rattle.plan.specs.declared.Member.{Member}
 use Rattle.amendments.specs.Force.{asValued}
 use Rattle.rules.specs.Rules.{unless, firstOf, between}
-use Rattle.acceptance.specs.Acceptance.{amendedRefusal, fieldRules, benefitRules, memberRefusal, lineRefusal, loneRefusal}
-use Rattle.acceptance.proofs.LoneLaws.{own-alone}
+use Rattle.rule_order.specs.Acceptance.{amendedRefusal, fieldRules, benefitRules, memberRefusal, lineRefusal, loneRefusal}
+use Rattle.rule_order.proofs.LoneLaws.{own-alone}
 use Rattle.rules.proofs.RuleLaws.{all-kept}
 use Rattle.rules.proofs.RuleLaws.{first-passes, first-alone}
 

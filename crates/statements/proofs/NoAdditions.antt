@@ -7,7 +7,7 @@ use Rattle.plan.specs.declared.Amendment.{Amendment}
 use Rattle.amendments.specs.Force.{inForceAfter, inForce, additions, asValued}
 use Rattle.amendments.specs.Judging.{unitRefusal, eachRefusal, amendmentsRefusal}
 use Rattle.amendments.proofs.Putting.{no-additions}
-use Rattle.acceptance.specs.Acceptance.{amendedRefusal, loneRefusal}
+use Rattle.rule_order.specs.Acceptance.{amendedRefusal, loneRefusal}
 use Rattle.costs.specs.Valuation.{valuation}
 use Rattle.walk.specs.Step.{headed, table}
 use Rattle.walk.specs.Walk.{valuedPlan}

@@ -6,25 +6,28 @@ use Prim.Native.Nat.{ℕ, suc, _+_, _-_, _<_}
 use native.Mathlib.Omega.{arith}
 use lib.Dec.{leb}
 use lib.ListN.{length, getD}
-use Rattle.acceptance.proofs.Facts.{plan-facts, member-facts}
+use Rattle.rule_order.proofs.Facts.{plan-facts, member-facts}
 use Rattle.costs.specs.Demand3.{WithinLimits}
-use Rattle.costs.specs.Valuation.{methodOf, settingOf, figuresAt, figures}
+use Rattle.costs.specs.declared.Valuation.the-variants.{Valued}
+use Rattle.costs.specs.Valuation.{methodOf, settingOf, figuresAt, figures, valuation}
 use Rattle.costs.proofs.Answers.{valued, limited, demand-3-forms, demand-3-sharp-limits}
 use Rattle.walk.specs.Outcome.{values, refusal}
 use Rattle.walk.specs.Walk.{Case, valuedPlan}
 use Rattle.walk.specs.Lines.{listed, tailOf}
 use Rattle.amendments.specs.Force.{asValued}
-use Rattle.acceptance.proofs.ValuedLaws.{valued-is-accepted}
-use Rattle.walk.specs.Kept.{nobody, idBefore}
+use Rattle.rule_order.proofs.ValuedLaws.{valued-is-accepted}
+use Rattle.walk.specs.Kept.{nobody, idBefore, AcceptedCase}
 use Rattle.walk.proofs.OutcomeLaws.{no-values, values-one, then-values}
 use Rattle.walk.proofs.Accepted.{accepted-keeps}
 use Rattle.casefile.specs.Answers.{acceptingOf}
+use Rattle.judging.proofs.Exactly.{refused-exactly}
+use Rattle.written.proofs.Theorems.{written-is-accepted}
 use Rattle.totals.specs.Totals.{total, unfunded, supplemental}
 use Rattle.report.specs.Lines.{memberLine, planLines, printed}
 use Rattle.fitting.specs.Fitting.{fitting}
 use Rattle.valuation.specs.Answers.{valuedOf}
 use Rattle.statements.specs.LinesOf.{linesPast, lineAt, linesBefore, firstMember}
-use Rattle.statements.specs.Statements.{Every-Member, Members-Are-Lines, Plan-Lines, Independence, Totals-Are-Sums, Totals-Accuracy, supplemental*, Supplemental-Accuracy}
+use Rattle.statements.specs.Statements.{Every-Member, Members-Are-Lines, Plan-Lines, Valued-Alike, Independence, Totals-Are-Sums, Totals-Accuracy, supplemental*, Supplemental-Accuracy}
 use Rattle.statements.proofs.LineEnds.{member-is-line, member-text, members-done}
 use Rattle.statements.proofs.FileLines.{Agree, files-lined, line-past, line-of-member}
 use Rattle.statements.proofs.LoneMember.{accepted-alone}
@@ -61,6 +64,12 @@ member-close s c accepted j there =
     let facts = member-facts (valuedPlan c) (c .rows) (idBefore (c .members) j) m (valued-is-accepted (c .plan) (c .amends) (c .rows) (rules .plan)) kept in
     demand-3-sharp-limits (c .plan) (c .amends) (c .rows) (idBefore (c .members) j) m (record { plan = rules .plan; member = kept }) (methodOf (c .plan .method)) (m .age) (omega (arith, facts)) (omega (arith, facts))
 
+-- and are those that it has as plain values
+member-alike : (c : Case) → AcceptedCase c → (j : ℕ) → j < length (c .members) → valuation (c .plan) (c .amends) (c .rows) (getD (c .members) j nobody) ≡ Valued (figures (valuedPlan c) (c .rows) (getD (c .members) j nobody))
+member-alike c rules j there =
+    let m = getD (c .members) j nobody in
+    sym (valued (c .plan) (c .amends) (c .rows) m (accepted-alone (c .plan) (c .amends) (c .rows) (idBefore (c .members) j) m (rules .plan) (rules .member j there)) refl)
+
 pub every-member : Every-Member
 unfolding memberLine acceptingOf
 every-member s out room c accepted fits j there =
@@ -70,7 +79,7 @@ every-member s out room c accepted fits j there =
     let kept = rules .member j there in
     record {
       shown = ap (λ (text : List ℕ). text ++ (10 ∷ [])) (own-text s room c accepted fits j there) ∙ sym (member-is-line (valuedPlan c) (c .rows) m .is);
-      alike = sym (valued (c .plan) (c .amends) (c .rows) m (accepted-alone (c .plan) (c .amends) (c .rows) before m (rules .plan) kept) refl);
+      alike = member-alike c rules j there;
       limited = limited (valuedPlan c) (c .rows) m (member-facts (valuedPlan c) (c .rows) before m (valued-is-accepted (c .plan) (c .amends) (c .rows) (rules .plan)) kept) refl;
       close = member-close s c accepted j there;
       forms = demand-3-forms (c .plan) (c .amends) (c .rows) before m (record { plan = rules .plan; member = kept });
@@ -91,6 +100,13 @@ pub plan-lines : Plan-Lines
 unfolding printed planLines
 plan-lines s out room c accepted fits =
     ap (linesPast (length (c .members))) (printed-of s room c accepted fits) ∙ members-done (valuedPlan c) (c .rows) (c .members) _
+
+-- ---- plain values and their written file
+pub valued-alike : Valued-Alike
+unfolding valuedOf acceptingOf
+valued-alike room c full none =
+    let rules = refused-exactly c (full .all-ages) .0 none in
+    record { file = rw (written-is-accepted c full rules); member = member-alike c rules }
 
 -- ---- independence
 case-of : (s : List ℕ) (room : ℕ) {out : List ℕ} → valuedOf room s ≡ values out → (c : Case) × (acceptingOf s ≡ values c)

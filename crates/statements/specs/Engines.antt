@@ -10,7 +10,7 @@ use Rattle.plan.specs.declared.Plan.{Plan}
 use Rattle.plan.specs.declared.Member.{Member}
 use Rattle.plan.specs.declared.Method.{Method}
 use Rattle.plan.specs.Ranges.{MemberRanges}
-use Rattle.acceptance.specs.Acceptance.{planRefusal}
+use Rattle.rule_order.specs.Acceptance.{planRefusal}
 use Rattle.costs.specs.declared.Figures.{Figures}
 use Rattle.costs.specs.Valuation.{methodOf, settingOf}
 use Rattle.parts.specs.declared.Parts.{Parts}
@@ -34,7 +34,7 @@ pub record Engine : Type 1 where
   pub after : Plan → (rows : List (List ℕ)) → Kept → Member → Method → (k : ℕ) → Kept
 
 -- the promise of either engine. `Right` is its own: what must hold of what it keeps. `begins`: of an accepted plan that holds from the
--- beginning on; for the shared engine `fill_shared` shows it before its loop (totals/src/lib.rt). `gives`: where it holds, an accepted
+-- beginning on; for the shared engine `fill_shared` shows it before its loop (shared_fill/src/lib.rt). `gives`: where it holds, an accepted
 -- member has its parts, by each of the five methods and at each age of its own (rule 9.9), and it holds of what is kept after it. That is
 -- the contract of both `parts_at` (plain_engine/src/annuities.rt, shared_engine/src/lib.rt), as a reader can see: the plain one keeps nothing, and
 -- the shared one asks and ensures what `Shared` has, for the method that is asked for

@@ -18,14 +18,14 @@ use Rattle.rules.specs.Heading.{headRules}
 use Rattle.row_rules.specs.Table.{rowsRefusal, rowRules}
 use Rattle.amendments.specs.Force.{listed, stands, inForceAfter, additions, asValued}
 use Rattle.amendments.specs.Judging.{amendmentRules, unitRefusal, eachRefusal, amendmentsRefusal}
-use Rattle.acceptance.specs.Acceptance.{loneRefusal, amendedRefusal, planRefusal, lineRefusal, memberRefusal, fieldRules, benefitRules}
+use Rattle.rule_order.specs.Acceptance.{loneRefusal, amendedRefusal, planRefusal, lineRefusal, memberRefusal, fieldRules, benefitRules}
 use Rattle.costs.specs.Costs.{PV, cost, N, L}
 use Rattle.costs.specs.Valuation.{methodOf, figuresAt, figures}
 use Rattle.costs.specs.Figures.{short-plan, short-member, short-list, member-figures}
 use Rattle.parts.specs.Parts.{partsAt, figuresFrom}
 use Rattle.fields.specs.Text.{bytes}
 use Rattle.printing.specs.Amounts.{digits, width, wholeNumber, amount, signedAmount}
-use Rattle.printing.specs.Lines.{fields, amountsLine, signedLine}
+use Rattle.printed_lines.specs.Lines.{fields, amountsLine, signedLine}
 use Rattle.totals.specs.Totals.{total, unfunded, supplemental}
 use Rattle.report.specs.Lines.{figuresLine, totalLine, planLines, memberLine, memberLines, printed}
 use Rattle.statements.specs.Engines.{by-definition, figuresFromKept, figuresBy, totalOf, linesOf, printedOf}

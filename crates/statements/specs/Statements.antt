@@ -3,7 +3,7 @@ use mathlib.Core.Path.{_≡_}
 use mathlib.Core.Bool.{true, false}
 use mathlib.Core.List.{List, [], _∷_, _++_}
 use Prim.Native.Nat.{ℕ, _+_, _≤_, _<_}
-use lib.ListN.{length, getD}
+use lib.ListN.{length, getD, take}
 use lib.IntN.{natAbs}
 use Rattle.fractions.specs.Ratio.{_over_, whole, _⊕_, _⊘_}
 use Rattle.fractions.specs.Fraction.{Fraction, integer, _⊙_, Apart}
@@ -15,7 +15,7 @@ use Rattle.plan.specs.declared.Member.{Member}
 use Rattle.plan.specs.declared.Method.{Method}
 use Rattle.amendments.specs.Force.{inForce, additions}
 use Rattle.amendments.specs.Judging.{amendmentsRefusal}
-use Rattle.acceptance.specs.Acceptance.{planRefusal}
+use Rattle.rule_order.specs.Acceptance.{planRefusal}
 use Rattle.costs.specs.declared.Figures.{Figures}
 use Rattle.costs.specs.declared.Valuation.the-variants.{Valued}
 use Rattle.costs.specs.Costs.{PV*, N*, L*}
@@ -23,19 +23,23 @@ use Rattle.costs.specs.Demand3.{FormsAgree, V-limit, N-limit, L-limit, WithinLi
 use Rattle.costs.specs.Valuation.{methodOf, settingOf, figures, valuation, Limited}
 use Rattle.fields.specs.Text.{bytes}
 use Rattle.fields.specs.Split.{uptoOf, startsOf}
-use Rattle.fields.specs.Numbers.{value, wholeOf, amountOf}
 use Rattle.walk.specs.Outcome.{values, andThen}
 use Rattle.walk.specs.Lines.{begins, listed, end, tailOf}
 use Rattle.walk.specs.Step.{headed, amending}
 use Rattle.walk.specs.Walk.{Case, valuedPlan, walkFrom}
 use Rattle.walk.specs.Kept.{nobody}
-use Rattle.casefile.specs.Answers.{acceptingOf}
-use Rattle.printing.specs.Amounts.{amount, wholeNumber}
-use Rattle.printing.specs.Lines.{signedLine}
+use Rattle.casefile.specs.declared.Accepting.the-variants.{Accepted}
+use Rattle.casefile.specs.Answers.{acceptingOf, accepting}
+use Rattle.casefile.specs.Stored.{amendmentsAfter, rowsAfter, membersAfter}
+use Rattle.judging.specs.Refusing.{plainCase, caseRefusal}
+use Rattle.written.specs.Written.{written}
+use Rattle.written.specs.Statements.{FullTable}
+use Rattle.printed_lines.specs.Lines.{signedLine}
 use Rattle.totals.specs.Totals.{total, total*, totals, unfunded, supplemental}
 use Rattle.report.specs.Lines.{figuresLine, totalLine, printed}
 use Rattle.fitting.specs.Fitting.{fitting}
 use Rattle.valuation.specs.Answers.{valuedOf}
+use Rattle.writer.specs.Files.{fileOf}
 use Rattle.statements.specs.LinesOf.{linesPast, lineAt, firstMember}
 
 -- ---- an accepted file whose lines fit the buffer
@@ -79,6 +83,24 @@ Plan-Lines =
     ≡ totalLine (length (c .members)) (totals (valuedPlan c) (c .rows) (c .members))
     ++ signedLine (bytes "unfunded=") (unfunded (valuedPlan c) (c .rows) (c .members))
     ++ signedLine (bytes "supplemental=") (supplemental (valuedPlan c) (c .rows) (c .members))
+
+-- ---- plain values and their written file
+-- rule 13.8, valued alike: what is printed of the written file are the lines of these values, where they fit; and each member has the figures that it has
+-- as plain values
+pub record ValuedAlike (room : ℕ) (c : Case) : Type 0 where
+  pub file : valuedOf room (written c) ≡ fitting room (printed (valuedPlan c) (c .rows) (c .members))
+  pub member : (j : ℕ) → j < length (c .members) → valuation (c .plan) (c .amends) (c .rows) (getD (c .members) j nobody) ≡ Valued (figures (valuedPlan c) (c .rows) (getD (c .members) j nobody))
+
+-- of all values that rule 5.7 doesn't refuse
+abbrev pub Valued-Alike : Type 0
+Valued-Alike = (room : ℕ) (c : Case) → FullTable (c .rows) → caseRefusal c ≡ 0 → ValuedAlike room c
+
+-- and for a program: what accept_case hands on of a file, a plan and the fronts of its arrays, is written by write_case as that very file
+abbrev pub Handed-On-Is-Written : Type 0
+Handed-On-Is-Written =
+    (room : ℕ) (s : List ℕ) (p : Plan) (k n : ℕ) (amendments oldAmendments rows oldRows members oldMembers : List (List ℕ))
+    → Accepted p k n ≡ accepting (acceptingOf s) → amendments ≡ amendmentsAfter (acceptingOf s) oldAmendments → rows ≡ rowsAfter (acceptingOf s) oldRows → members ≡ membersAfter (acceptingOf s) oldMembers
+    → fileOf room (plainCase p (take k amendments) rows (take n members)) ≡ fitting room s
 
 -- ---- independence
 -- two files agree in all lines before the members, of which `amends` are amendments', and the line of member j in one is that of member j' in the other
@@ -146,16 +168,9 @@ Supplemental-Accuracy =
     (p : Plan) (rows : List (List ℕ)) (members : List Member) → planRefusal p rows ≡ 0
     → Apart (1 over 2 ⊕ natAbs (unfunded p rows members) over 2000000000) (integer (supplemental p rows members)) (supplemental* p rows members)
 
--- ---- the form of what is printed: proved in proofs/ReadBack.antt and proofs/AmountSizes.antt
--- rule 13.4, numbers as in a case file: what reads a case file reads a printed whole number back (rule 1.3), and finds what was printed
-abbrev pub Wholes-Read-Back : Type 0
-Wholes-Read-Back = (n : ℕ) → n < 1000000000000 → wholeOf (wholeNumber n) ≡ value n
-
--- and a printed amount (rule 1.4)
-abbrev pub Amounts-Read-Back : Type 0
-Amounts-Read-Back = (cents : ℕ) → cents < 100000000000000 → amountOf (amount cents) ≡ value cents
-
--- and every number and amount that is printed of an accepted case is one of those: an amount is 999999999999.99 at most, whatever its sign
+-- ---- the form of what is printed: proved in proofs/AmountSizes.antt
+-- rule 13.4: every number and amount that is printed of an accepted case is one that is read back (number_texts/specs/Statements.antt): an amount is
+-- 999999999999.99 at most, whatever its sign
 abbrev pub Fits : ℕ → Type 0
 Fits cents = cents < 100000000000000
 

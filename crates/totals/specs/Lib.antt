@@ -1,4 +1,4 @@
--- The plan's own figures, RULES section 11, the array of the members' figures, and which engine works them.
+-- The plan's own figures, RULES section 11, the sums over the array of the members' figures, and which engine works them.
 pub mod Totals
-pub mod Worked
+pub mod Sums
 pub mod Choice

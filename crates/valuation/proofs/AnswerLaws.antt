@@ -10,13 +10,13 @@ use lib.ListN.{length, getD, take}
 use lib.Seq.{take-suc, take-length}
 use Rattle.plan.specs.declared.Plan.{Plan}
 use Rattle.plan.specs.declared.Member.{Member}
-use Rattle.acceptance.proofs.Facts.{id-small, member-facts}
+use Rattle.rule_order.proofs.Facts.{id-small, member-facts}
 use Rattle.members.specs.Array.{memberAt, arrayOf}
 use Rattle.members.proofs.ArrayLaws.{array-member}
 use Rattle.walk.specs.Outcome.{Outcome, values, refusal, andThen}
 use Rattle.amendments.specs.Force.{amendmentsFrom, asValued}
 use Rattle.amendments.proofs.Keeping.{list-kept, few-listed}
-use Rattle.acceptance.proofs.ValuedLaws.{amended-kept}
+use Rattle.rule_order.proofs.ValuedLaws.{amended-kept}
 use Rattle.walk.specs.Walk.{Case, valuedPlan}
 use Rattle.amend_lines.specs.Array.{listArray}
 use Rattle.amend_lines.proofs.ArrayLaws.{list-front}
@@ -25,8 +25,8 @@ use Rattle.casefile.specs.declared.Accepting.the-variants.{Accepted as CaseAcce
 use Rattle.casefile.specs.Answers.{acceptingOf, accepting}
 use Rattle.casefile.specs.Stored.{idBeforeAt, amendmentsAfter, rowsAfter, membersAfter, AcceptedArrays}
 use Rattle.casefile.proofs.Arrays.{accepted-case}
-use Rattle.totals.specs.Worked.{membersIn, AcceptedMembers, AreWorked}
-use Rattle.totals.proofs.TotalLaws.{worked-small}
+use Rattle.all_figures.specs.Worked.{membersIn, AcceptedMembers, AreWorked}
+use Rattle.all_figures.proofs.WorkedLaws.{worked-small}
 use Rattle.report.specs.Lines.{printed, refusalLine}
 use Rattle.report.specs.MemberLines.{ShortLines}
 use Rattle.report.proofs.PrintedLaws.{refusal-line-most}

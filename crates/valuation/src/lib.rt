@@ -1,11 +1,11 @@
-// The valuation of a whole plan, as text: RULES sections 12 and 13. The figures and their totals are the crate totals', the
-// lines the crate report's, and that they are written where they fit is the crate fitting's. The entries are value_case,
-// value_case_by and print_case, and those of the layers below, which are passed on: refusal_line, read_case, accept_case,
-// accept_plan, accept_member, value_member. None has a `requires`.
+// The valuation of a whole plan, as text: RULES sections 12 and 13. The figures and their totals are the crate totals', what the
+// plan has yet to pay the crate funding's, the lines the crate report's, and that they are written where they fit is the crate
+// fitting's. The entries are value_case, value_case_by and print_case, and those of the layers below, which are passed on:
+// refusal_line, read_case, accept_case, accept_plan, accept_member, value_member. None has a `requires`.
 pub use acceptance::Acceptance;
 pub use acceptance::accept_member;
 pub use acceptance::accept_plan;
-use amendments::as_valued;
+use amending::as_valued;
 pub use casefile::Accepting;
 pub use casefile::Reading;
 pub use casefile::accept_case;
@@ -15,6 +15,8 @@ pub use costs::Valuation;
 pub use fitting::Answer;
 use fitting::fit_lines;
 pub use fitting::refusal_line;
+use funding::supplemental_of;
+use funding::unfunded_of;
 pub use plain_engine::value_member;
 pub use plan::Amendments;
 use plan::MOST_AMENDMENTS;
@@ -25,8 +27,6 @@ pub use plan::Plan;
 use rates::AGES;
 use rates::Rows;
 pub use totals::EngineChoice;
-use totals::supplemental_of;
-use totals::unfunded_of;
 use totals::work;
 ghost use mathlib.Core.Path.{_≡_};
 ghost use Prim.Native.Nat.{_≤_};
@@ -35,7 +35,7 @@ ghost use Rattle.walk.specs.Outcome.{refusal};
 ghost use Rattle.report.specs.Lines.{printed};
 ghost use Rattle.fitting.specs.Fitting.{fitting, answer, buffer};
 ghost use Rattle.valuation.specs.Answers.{valuedOf, orRefusal, programOf, Writes};
-ghost use Rattle.totals.specs.Worked.{AcceptedMembers, membersIn};
+ghost use Rattle.all_figures.specs.Worked.{AcceptedMembers, membersIn};
 
 // Values a case file: the lines of its members and of the plan, at the start of `out`, or a refusal.
 pub fn value_case(case: &[u8], out: &mut [u8]) -> Answer

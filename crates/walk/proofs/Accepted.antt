@@ -19,11 +19,11 @@ use Rattle.rules.specs.Heading.{TermRule, termRules, termRule, termsOf, ruled, 
 use Rattle.row_rules.specs.Table.{rowRules, rowNumbers, rowOf as rowIn, weightBefore, rowsRefusal}
 use Rattle.amendments.specs.Judging.{amendmentRefusal, unitRefusal, eachRefusal}
 use Rattle.amendments.proofs.Keeping.{list-kept, kept-list, each-next, next-each}
-use Rattle.acceptance.specs.Acceptance.{amendedRefusal, memberRefusal, personSum}
+use Rattle.rule_order.specs.Acceptance.{amendedRefusal, memberRefusal, personSum}
 use Rattle.rules.proofs.RuleLaws.{All-kept, all-kept, kept-all}
-use Rattle.acceptance.proofs.Facts.{line-kept}
-use Rattle.acceptance.proofs.ValuedLaws.{amended-kept, kept-amended}
-use Rattle.acceptance.proofs.SumLaws.{sum-both, sum-next}
+use Rattle.rule_order.proofs.Facts.{line-kept}
+use Rattle.rule_order.proofs.ValuedLaws.{amended-kept, kept-amended}
+use Rattle.rule_order.proofs.SumLaws.{sum-both, sum-next}
 use Rattle.walk.specs.Outcome.{values, refusal}
 use Rattle.walk.specs.Terms.{termForms, termRefusal}
 use Rattle.walk.specs.Lines.{dueAge, rowRefusal}
@@ -36,7 +36,7 @@ use Rattle.walk.proofs.FoldLaws.{folded-keeps, accepted-kept, kept-acce
 use Rattle.walk.proofs.StepLaws.{Sized, line-sized, line-kept as step-kept}
 use Rattle.walk.proofs.Theorems.{start-sized}
 
-both : (a b : ℕ) → (firstOf (a ∷ b ∷ []) ≡ 0) ↔ ((a ≡ 0) × (b ≡ 0))
+pub both : (a b : ℕ) → (firstOf (a ∷ b ∷ []) ≡ 0) ↔ ((a ≡ 0) × (b ≡ 0))
 both a b =
     ((λ e. let k = all-kept (a ∷ b ∷ []) e in (k .0, k .1 .0)), (λ k. kept-all (a ∷ b ∷ []) (k .0, (k .1, tt))))
 
@@ -52,7 +52,7 @@ each-judged (rule ∷ rules) before (v ∷ t) same fits =
     let here : termRefusal before v ≡ rule before v = ap (λ (r : TermRule). r before v) (sym (ap termRule (add-zero (length before))) ∙ same 0) in
     ((λ k. (sym here ∙ k .0, later .0 (k .1))), (λ k. (here ∙ k .0, later .1 (k .1))))
 
-terms-back : (t : List ℕ) → length t ≡ length termForms → termsOf (planFrom t) ≡ t
+pub terms-back : (t : List ℕ) → length t ≡ length termForms → termsOf (planFrom t) ≡ t
 unfolding termForms
 terms-back [] n = absurd (omega arith)
 terms-back (a ∷ []) n = absurd (omega arith)
@@ -151,6 +151,14 @@ module _ (h : Head) where
         kept-sums (before ++ m ∷ []) l (λ j h. rw append-assoc (own (suc j) (omega arith))) (λ person. rw append-assoc (low person)),
       )
 
+  -- so the members are kept one after the other exactly where each line is kept by itself, and each person's sum
+  pub members-kept : (members : List Member) → Each (refusalAfter h) members ↔ (((j : ℕ) → j < length members → memberRefusal (planIn h) (h .rows) (idBefore members j) (getD members j nobody) ≡ 0) × ((person : ℕ) → sumIn h person members ≤ 100000000))
+  members-kept members = (
+    (λ k.
+        ((λ j low. rw (← id-at members j low) (line-kept _ _ _ _ _ .0 (each-at (refusalAfter h) nobody [] members k j low) .0)), sums-kept [] members k none)),
+    (λ a. kept-sums [] members (λ j low. rw (id-at members j low) (a .0 j low)) (a .1)),
+  )
+
 -- ---- a whole case
 module _ (t : List ℕ) (l : List Amendment) (rows : List (List ℕ)) where
   abbrev pub HeadKeeps : Type 0
@@ -171,12 +179,13 @@ module _ (h : Head) (members : List Member) (k : ℕ) (sized : Sized k (ended h 
   case-kept : (rest : List ℕ) → Kept (ended h members) rest ↔ AcceptedCase (caseOf h members)
   case-kept rest = (
     (λ k.
+        let m = members-kept h members .0 (k .members) in
         record {
           plan = plan-kept (h .terms) (h .amends) (h .rows) (sized .1) (sized .3) .1 (k .terms, k .amends, k .unit, k .rows);
           all-ages = sized .3;
           few = sized .4;
-          member = λ j low. rw (← id-at members j low) (line-kept _ _ _ _ _ .0 (each-at (refusalAfter h) nobody [] members (k .members) j low) .0);
-          persons = sums-kept h [] members (k .members) (none h);
+          member = m .0;
+          persons = m .1;
         }),
     (λ a.
         let p = plan-kept (h .terms) (h .amends) (h .rows) (sized .1) (sized .3) .0 (a .plan) in
@@ -185,7 +194,7 @@ module _ (h : Head) (members : List Member) (k : ℕ) (sized : Sized k (ended h 
           amends = p .1;
           unit = p .2;
           rows = p .3;
-          members = kept-sums h [] members (λ j low. rw (id-at members j low) (a .member j low)) (a .persons);
+          members = members-kept h members .1 (a .member, a .persons);
         }),
   )
 
@@ -203,13 +212,13 @@ end-kept k rest (ended h members) c e sized = subst (λ (c : Case). Kept (ended 
 -- ---- the walk
 module _ (s : List ℕ) (c : Case) where
   -- where a walk gives values: its last state
-  record Last (ranges : Bool) : Type 0 where
-    last : State
-    short : ltb 65536 (length s) ≡ false
-    fold : folded ranges (restOf s) 1 start (linesOf s) ≡ values last
-    whole : closed (1 + length (linesOf s)) (restOf s) last ≡ values c
+  pub record Last (ranges : Bool) : Type 0 where
+    pub last : State
+    pub short : ltb 65536 (length s) ≡ false
+    pub fold : folded ranges (restOf s) 1 start (linesOf s) ≡ values last
+    pub whole : closed (1 + length (linesOf s)) (restOf s) last ≡ values c
 
-  last-of : (ranges : Bool) → walkOf ranges s ≡ values c → Last ranges
+  pub last-of : (ranges : Bool) → walkOf ranges s ≡ values c → Last ranges
   unfolding walkOf walkFrom
   last-of ranges = pick (ltb 65536 (length s)) refl
     where
@@ -219,7 +228,7 @@ module _ (s : List ℕ) (c : Case) where
           let f = then-values (folded ranges (restOf s) 1 start (linesOf s)) _ e in
           record { last = f .0; short = h; fold = f .1; whole = f .2 }
 
-  walk-of : (ranges : Bool) → Last ranges → walkOf ranges s ≡ values c
+  pub walk-of : (ranges : Bool) → Last ranges → walkOf ranges s ≡ values c
   unfolding walkOf walkFrom
   walk-of ranges f = rw (f .short, f .fold) (f .whole)
 

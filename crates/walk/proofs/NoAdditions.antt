@@ -16,7 +16,7 @@ use Rattle.rules.specs.Refusals.{wrongCount}
 use Rattle.rules.specs.Heading.{planFrom}
 use Rattle.amendments.specs.Force.{inForceAfter, inForce, additions}
 use Rattle.amendments.proofs.Putting.{no-additions}
-use Rattle.acceptance.specs.Acceptance.{personSum, lineRefusal}
+use Rattle.rule_order.specs.Acceptance.{personSum, lineRefusal}
 use Rattle.walk.specs.Outcome.{Outcome, values, refusal, andThen, settled}
 use Rattle.walk.specs.Lines.{begins, dueAge, rowForm, Tail, listed, end, surplus, neither, mostMembers, tailOf}
 use Rattle.walk.specs.Step.{Head, planIn, headed, State, amending, table, people, ended, Verdict, wrong, right, rowLine, lastId, tailLine, verdictOf, judged, step}

@@ -19,7 +19,7 @@ use Rattle.rules.specs.Heading.{TermRule, unitMost, termRules, formulaIn, formu
 use Rattle.row_rules.specs.Table.{rowRules, rowNumbers, weightBefore}
 use Rattle.amendments.specs.Force.{listed, unitValued}
 use Rattle.amendments.specs.Judging.{mostAmendments, lastNumber, fieldRefusal, amendmentRules, amendmentRefusal, unitRefusal}
-use Rattle.acceptance.specs.Acceptance.{fieldRules, benefitRules, memberRefusal, lineRefusal}
+use Rattle.rule_order.specs.Acceptance.{fieldRules, benefitRules, memberRefusal, lineRefusal}
 use Rattle.walk.specs.Terms.{formulaWord, methodWord, termForms, termForm, termRefusal}
 use Rattle.walk.specs.Lines.{begins, dueAge, rowRefusal}
 use Rattle.walk.specs.Step.{Head, withAmend, unitAhead, amendRefusal}

@@ -22,7 +22,7 @@ use Rattle.amendments.specs.Force.{amendmentFrom}
 use Rattle.amendments.specs.Judging.{mostAmendments, fieldRefusal, amendmentRefusal, unitRefusal}
 use Rattle.walk.specs.Terms.{termForms, termForm, termRefusal}
 use Rattle.walk.specs.Lines.{begins, amendForm, rowForm, dueAge, rowRefusal, Tail, listed, end, surplus, neither, endMade, mostMembers, tailOf}
-use Rattle.walk.specs.Step.{Head, planIn, headed, State, heading, amending, table, people, ended, Verdict, wrong, right, termLine, withAmend, unitAhead, amendRefusal, amendLine, withRow, rowLine, refusalAfter, tailLine, verdictOf}
+use Rattle.walk.specs.Step.{Head, planIn, headed, State, heading, amending, table, people, ended, Verdict, wrong, right, termLine, withAmend, unitAhead, amendRefusal, amendLine, withRow, rowLine, lastId, refusalAfter, tailLine, verdictOf}
 use Rattle.walk.specs.Kept.{EachAfter, Each, Kept}
 use Rattle.walk.specs.Answers.{Section, in-heading, in-list, in-table, in-members, past-end, FormOf, term-form, amend-form, twenty-first, row-form, count, tail-form, surplus as surplus-form, after-end, RangeOf, of-line}
 use Rattle.walk.proofs.RangeLaws.{Ranged, field-ranged, amend-ranged, row-ranged, line-ranged, term-ranged}
@@ -34,6 +34,12 @@ each-next rule before [] a = rw append-nil ((λ e. (tt, e .0)), (λ e. (e .1, tt
 each-next rule before (b ∷ l) a =
     let h = rw append-assoc at (each-next rule (before ++ b ∷ []) l a) in
     ((λ e. let f = h .0 (e .1) in ((e .0, f .0), f .1)), (λ e. (e .0 .0, h .1 (e .0 .1, e .1))))
+
+-- the last id of members and one more
+pub last-id : (l : List Member) (m : Member) → lastId (l ++ m ∷ []) ≡ m .id
+last-id [] m = refl
+last-id (a ∷ []) m = refl
+last-id (a ∷ b ∷ l) m = last-id (b ∷ l) m
 
 -- ---- what is due, and at which line
 -- after the terms the line itself says whether it is an amendment's or the first row's

@@ -7,7 +7,7 @@ use Rattle.rates.specs.Table.{ages}
 use Rattle.plan.specs.declared.Member.{Member}
 use Rattle.rules.specs.Heading.{planFrom}
 use Rattle.amendments.specs.Judging.{amendmentRefusal, unitRefusal}
-use Rattle.acceptance.specs.Acceptance.{amendedRefusal, memberRefusal, personSum}
+use Rattle.rule_order.specs.Acceptance.{amendedRefusal, memberRefusal, personSum}
 use Rattle.walk.specs.Terms.{termRefusal}
 use Rattle.walk.specs.Lines.{rowRefusal, mostMembers}
 use Rattle.walk.specs.Step.{Head, headed, State, heading, amending, table, people, ended, unitAhead, refusalAfter}

@@ -1,5 +1,5 @@
 -- The lines after the terms: an amendment, rule 2.11; a row, RULES section 3; a member or the end, section 4. The range rules of an amendment are the crate
--- amendments', those of a row the crate row_rules', those of a member the crate acceptance's.
+-- amendments', those of a row the crate row_rules', those of a member the crate rule_order's.
 use Prim.Native.Nat.{ℕ, _+_}
 use mathlib.Core.List.{List, [], _∷_}
 use mathlib.Core.Bool.{Bool, cond}

@@ -20,7 +20,7 @@ use Rattle.rules.specs.Heading.{planFrom}
 use Rattle.row_rules.specs.Table.{rowRules}
 use Rattle.amendments.specs.Force.{amendmentFrom, listed as listedAmong, stands, inForceAfter, additions, asValued, amend}
 use Rattle.amendments.specs.Judging.{mostAmendments, fieldRefusal, amendmentRules, amendmentRefusal, unitRefusal, many}
-use Rattle.acceptance.specs.Acceptance.{personSum, lineRefusal}
+use Rattle.rule_order.specs.Acceptance.{personSum, lineRefusal}
 use Rattle.walk.specs.Outcome.{Outcome, values, refusal, passing, settled}
 use Rattle.walk.specs.Terms.{termForms, termForm, termRefusal}
 use Rattle.walk.specs.Lines.{begins, amendForm, rowForm, dueAge, rowRefusal, Tail, listed, end, surplus, neither, mostMembers, tailOf}

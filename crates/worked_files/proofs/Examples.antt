@@ -16,7 +16,7 @@ use Rattle.plan.specs.Benefit.{formulaOf, pay, pays, exactBenefit, B}
 use Rattle.row_rules.specs.Table.{rowRules}
 use Rattle.amendments.specs.Force.{listed as listedAmong, stands, inForceAfter, additions}
 use Rattle.amendments.specs.Judging.{amendmentRules, unitRefusal}
-use Rattle.acceptance.specs.Acceptance.{fieldRules, benefitRules, memberRefusal, personSum, lineRefusal}
+use Rattle.rule_order.specs.Acceptance.{fieldRules, benefitRules, memberRefusal, personSum, lineRefusal}
 use Rattle.walk.specs.Outcome.{Outcome, values, refusal}
 use Rattle.walk.specs.Terms.{formulaWord, methodWord, termForms}
 use Rattle.walk.specs.Lines.{amendForm, rowForm, listed, end, surplus, neither, tailOf}

@@ -1,6 +1,6 @@
 -- `acceptance::answer_of` meets its contract.
 use borrow.Author.Tests.{eq-eqb, ne-eqb}
-use Rattle.acceptance.specs.Acceptance.{acceptanceOf}
+use Rattle.acceptance.specs.Answers.{acceptanceOf}
 use Rattle.acceptance.proofs.answer_of.Statement.{statement}
 use Rattle.acceptance.proofs.answer_of.Tie as tie
 

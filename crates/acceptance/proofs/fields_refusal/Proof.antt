@@ -1,5 +1,5 @@
 -- `acceptance::fields_refusal` meets its contract.
-use Rattle.acceptance.specs.Acceptance.{fieldRules}
+use Rattle.rule_order.specs.Acceptance.{fieldRules}
 use Rattle.rules.proofs.RuleLaws.{in-order, last-in-order}
 use Rattle.acceptance.proofs.fields_refusal.Statement.{statement}
 use Rattle.acceptance.proofs.fields_refusal.Tie as tie

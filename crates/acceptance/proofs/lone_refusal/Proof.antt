@@ -2,13 +2,13 @@
 use mathlib.Core.Path.{_≡_, sym, ap, _∙_}
 use mathlib.Core.List.{_∷_, []}
 use borrow.Author.Needs.{needs}
-use Rattle.acceptance.specs.Acceptance.{amendedRefusal, memberRefusal, lineRefusal, loneRefusal}
+use Rattle.rule_order.specs.Acceptance.{amendedRefusal, memberRefusal, lineRefusal, loneRefusal}
 use Rattle.plan.specs.declared.Plan.{Plan}
 use Rattle.amendments.specs.Force.{amendmentsFrom, asValued}
 use Rattle.rules.proofs.RuleLaws.{first-refuses, first-passes, first-alone}
-use Rattle.acceptance.proofs.Facts.{is-benefit, is-refused}
-use Rattle.acceptance.proofs.LoneLaws.{own-alone}
-use Rattle.acceptance.proofs.ValuedLaws.{amended-kept, valued-is-accepted}
+use Rattle.acceptance.proofs.BenefitLaws.{is-benefit, is-refused}
+use Rattle.rule_order.proofs.LoneLaws.{own-alone}
+use Rattle.rule_order.proofs.ValuedLaws.{amended-kept, valued-is-accepted}
 use Rattle.acceptance.proofs.lone_refusal.Statement.{statement}
 use Rattle.acceptance.proofs.lone_refusal.Tie as tie
 

@@ -4,8 +4,9 @@ use native.Mathlib.Nat.{le-refl, le-of-lt}
 use native.Mathlib.Omega.{arith}
 use borrow.Author.Tests.{le-leb, lt-leb}
 use Rattle.plan.specs.Benefit.{B}
-use Rattle.acceptance.specs.Acceptance.{benefitRules}
-use Rattle.acceptance.proofs.Facts.{plan-facts, range-facts, fields-refused, fields-kept, benefit-refused, benefit-is}
+use Rattle.rule_order.specs.Acceptance.{benefitRules}
+use Rattle.rule_order.proofs.Facts.{plan-facts, range-facts, fields-refused, fields-kept}
+use Rattle.acceptance.proofs.BenefitLaws.{benefit-refused, benefit-is}
 use Rattle.acceptance.proofs.member_benefit.Statement.{statement}
 use Rattle.acceptance.proofs.member_benefit.Tie as tie
 

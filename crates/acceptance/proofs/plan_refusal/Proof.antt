@@ -1,7 +1,7 @@
 -- `acceptance::plan_refusal` meets its contract.
 use borrow.Author.Needs.{needs}
 use Rattle.rules.proofs.RuleLaws.{in-order, last-in-order}
-use Rattle.acceptance.specs.Acceptance.{amendedRefusal}
+use Rattle.rule_order.specs.Acceptance.{amendedRefusal}
 use Rattle.acceptance.proofs.plan_refusal.Statement.{statement}
 use Rattle.acceptance.proofs.plan_refusal.Tie as tie
 

@@ -1,7 +1,7 @@
 -- `kuyeshan::kuyeshan_accept` meets its contract.
 use native.Mathlib.Omega.{arith}
 use Rattle.casefile.specs.Answers.{acceptingOf}
-use Rattle.kuyeshan.proofs.AnswerLaws.{accept-none, accept-refused}
+use Rattle.answer_numbers.proofs.AnswerLaws.{accept-none, accept-refused}
 use Rattle.kuyeshan.proofs.kuyeshan_accept.Statement.{statement}
 use Rattle.kuyeshan.proofs.kuyeshan_accept.Tie as tie
 

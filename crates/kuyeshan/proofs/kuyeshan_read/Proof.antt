@@ -1,6 +1,6 @@
 -- `kuyeshan::kuyeshan_read` meets its contract.
 use native.Mathlib.Omega.{arith}
-use Rattle.kuyeshan.proofs.AnswerLaws.{read-none, read-refused}
+use Rattle.answer_numbers.proofs.AnswerLaws.{read-none, read-refused}
 use Rattle.kuyeshan.proofs.kuyeshan_read.Statement.{statement}
 use Rattle.kuyeshan.proofs.kuyeshan_read.Tie as tie
 

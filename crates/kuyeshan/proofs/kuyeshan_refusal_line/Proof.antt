@@ -3,7 +3,7 @@ use native.Mathlib.Omega.{arith}
 use lib.ListN.{length}
 use Rattle.report.specs.Lines.{refusalLine}
 use Rattle.fitting.specs.Fitting.{fitting}
-use Rattle.kuyeshan.proofs.AnswerLaws.{written-is, write-refused}
+use Rattle.answer_numbers.proofs.AnswerLaws.{written-is, write-refused}
 use Rattle.kuyeshan.proofs.kuyeshan_refusal_line.Statement.{statement}
 use Rattle.kuyeshan.proofs.kuyeshan_refusal_line.Tie as tie
 

@@ -2,7 +2,7 @@
 use native.Mathlib.Omega.{arith}
 use lib.ListN.{length}
 use Rattle.valuation.specs.Answers.{valuedOf}
-use Rattle.kuyeshan.proofs.AnswerLaws.{written-is, write-refused}
+use Rattle.answer_numbers.proofs.AnswerLaws.{written-is, write-refused}
 use Rattle.kuyeshan.proofs.value_by.Statement.{statement}
 use Rattle.kuyeshan.proofs.value_by.Tie as tie
 

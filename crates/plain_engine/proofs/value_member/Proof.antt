@@ -3,8 +3,8 @@ use mathlib.Core.Path.{_≡_, sym, ap, _∙_}
 use Rattle.plan.specs.declared.Plan.{Plan}
 use Rattle.plan.specs.Ranges.{MemberRanges}
 use Rattle.amendments.specs.Force.{amendmentsFrom, asValued}
-use Rattle.acceptance.specs.Acceptance.{loneRefusal}
-use Rattle.acceptance.proofs.ValuedLaws.{lone-list, lone-facts}
+use Rattle.rule_order.specs.Acceptance.{loneRefusal}
+use Rattle.rule_order.proofs.ValuedLaws.{lone-list, lone-facts}
 use Rattle.costs.specs.Valuation.{figures}
 use Rattle.costs.proofs.Answers.{refused, valued, limited}
 use borrow.Author.Needs.{needs}

@@ -1,7 +1,7 @@
 -- `report::write_member_line` meets its contract.
 use borrow.Author.Needs.{needs}
 use Rattle.printing.proofs.SetsLaws.{_then_}
-use Rattle.printing.proofs.LineLaws.{field-before}
+use Rattle.printed_lines.proofs.LineLaws.{field-before}
 use Rattle.report.specs.Lines.{figuresLine}
 use Rattle.report.proofs.write_member_line.Statement.{statement}
 use Rattle.report.proofs.write_member_line.Tie as tie

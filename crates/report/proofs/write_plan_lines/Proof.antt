@@ -1,7 +1,7 @@
 -- `report::write_plan_lines` meets its contract.
 use borrow.Author.Needs.{needs}
 use Rattle.printing.proofs.SetsLaws.{_then_}
-use Rattle.printing.proofs.LineLaws.{start-and-fields}
+use Rattle.printed_lines.proofs.LineLaws.{start-and-fields}
 use Rattle.report.specs.Lines.{totalLine, planLines}
 use Rattle.report.proofs.write_plan_lines.Statement.{statement}
 use Rattle.report.proofs.write_plan_lines.Tie as tie

@@ -3,7 +3,7 @@ use mathlib.Core.Path.{_≡_}
 use Prim.Native.Nat.{_-_, _≤_}
 use native.Mathlib.Omega.{arith}
 use borrow.Author.Needs.{needs}
-use Rattle.totals.specs.Worked.{sumIn}
+use Rattle.totals.specs.Sums.{sumIn}
 use Rattle.totals.proofs.TotalLaws.{sum-none, sum-next, sum-fits}
 use Rattle.totals.proofs.sum_figures.Statement.{statement}
 use Rattle.totals.proofs.sum_figures.Tie as tie

@@ -1,6 +1,7 @@
 -- `totals::work` meets its contract.
 use mathlib.Core.Path.{_∙_}
-use Rattle.totals.proofs.TotalLaws.{sums-totals, worked-small}
+use Rattle.totals.proofs.TotalLaws.{sums-totals}
+use Rattle.all_figures.proofs.WorkedLaws.{worked-small}
 use Rattle.totals.proofs.work.Statement.{statement}
 use Rattle.totals.proofs.work.Tie as tie
 

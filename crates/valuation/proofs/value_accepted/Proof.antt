@@ -1,6 +1,6 @@
 -- `valuation::value_accepted` meets its contract.
 use borrow.Author.Needs.{needs}
-use Rattle.acceptance.proofs.Facts.{plan-facts}
+use Rattle.rule_order.proofs.Facts.{plan-facts}
 use Rattle.report.proofs.PrintedLaws.{printed-is}
 use Rattle.valuation.proofs.AnswerLaws.{short-lines}
 use Rattle.valuation.proofs.value_accepted.Statement.{statement}

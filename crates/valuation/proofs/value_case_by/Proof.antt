@@ -8,7 +8,7 @@ use lib.ListN.{length, replicate, length-take}
 use Rattle.plan.specs.declared.Plan.{Plan}
 use Rattle.casefile.specs.Stored.{AcceptedLists}
 use Rattle.casefile.proofs.Arrays.{accepted-arrays}
-use Rattle.totals.specs.Worked.{membersIn}
+use Rattle.all_figures.specs.Worked.{membersIn}
 use Rattle.report.specs.Lines.{printed}
 use Rattle.fitting.specs.Fitting.{fitting, answer, buffer}
 use Rattle.valuation.proofs.AnswerLaws.{accepted-members, valued-accepted, valued-refused}

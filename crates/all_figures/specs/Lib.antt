@@ -1,0 +1,2 @@
+-- The array of the members' figures.
+pub mod Worked

@@ -1,0 +1,2 @@
+-- Laws that no function owns.
+pub mod TextLaws

@@ -1,0 +1,4 @@
+pub mod Acceptance
+pub mod Rising
+pub mod Lone
+pub mod Valued

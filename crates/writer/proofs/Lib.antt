@@ -1,0 +1,3 @@
+-- Laws that no function owns; Copies is what a reader looks for.
+pub mod FileLaws
+pub mod Copies
