@@ -1,6 +1,8 @@
 // Accepting a plan, its amendments, its rows and a member handed in as plain values, rules 5.3 to 5.6, by the rules in their
 // order, which crate `rule_order` has: the first refusal. A refusal is its number, and 0 is none. specs/Answers.antt has what is
 // answered.
+#![tactic(auto)]
+
 ghost use Rattle.std.specs.Prelude.{◌≡◌, ◌&&◌, leb, ltb};
 ghost use Rattle.rules.specs.Refusals.{wrong_id, wrong_entry};
 ghost use Rattle.rules.specs.Rules.{first_among};
@@ -28,7 +30,7 @@ pub fn plan_refusal(p: Plan, amendments: &[[u64; 4]], rows: Rows) -> u64
 }
 
 // A member's B(r), or its own refusal's number.
-#[derive(Drop)]
+#[derive(Clone, Copy)]
 pub enum Benefit {
     Is(u64),
     Refused(u64),
@@ -77,7 +79,7 @@ fn id_rule(before: u64, id: u64) -> u64
 }
 
 // The answer of an entry: accepted, or a refusal's number and line. The line of plain values is 0.
-#[derive(Drop)]
+#[derive(Clone, Copy)]
 pub enum Acceptance {
     Accepted,
     Refused(u64, u64),

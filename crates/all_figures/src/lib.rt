@@ -1,5 +1,7 @@
 // The members of an accepted plan and their figures, each in an array. specs/Worked.antt has what the array of figures holds. The engines fill
 // it, each in a crate of its own: plain_fill and shared_fill.
+#![tactic(auto)]
+
 ghost use Rattle.std.specs.Prelude.{◌≡◌, ◌<◌};
 ghost use Rattle.walk.specs.Lines.{most_members};
 ghost use Rattle.members.specs.Array.{member_at};

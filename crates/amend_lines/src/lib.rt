@@ -1,4 +1,6 @@
 // The amendments of a case file, rule 2.11: the lines after the terms that begin amend=, up to the first that doesn't.
+#![tactic(auto)]
+
 ghost use Rattle.std.specs.Prelude.{◌≡◌, true, cond, [], ℕ, ◌≤◌, length, take, set};
 ghost use Rattle.fields.specs.declared.Line.TheVariants.{Good};
 ghost use Rattle.fields.specs.Split.{upto_of};

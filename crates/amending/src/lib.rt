@@ -1,5 +1,7 @@
 // Amendments to the unit, as the crate amendments defines them: the rules of each after those before it, and the plan as it is valued, with
 // the additions in force. A list is handed in as plain values, four numbers for each amendment.
+#![tactic(auto)]
+
 ghost use Rattle.std.specs.Prelude.{◌≡◌, ◌&&◌, ◌||◌, [], ◌<◌, length, get_or, ltb, eqb};
 ghost use Rattle.rules.specs.Refusals.{wrong_amendment, unlisted_rest};
 ghost use Rattle.rules.specs.Rules.{unless as Rules·unless};

@@ -2,6 +2,8 @@
 // death, withdrawal, disability and weight of each age in turn. An export answers false, and fills nothing, where the
 // table or another argument is not what the annuity functions require; so it requires nothing itself. The program
 // test_annuity_factors tests its tables by `is_table` too.
+#![tactic(auto)]
+
 ghost use Rattle.std.specs.Prelude.{true, ◌≡◌, ◌+◌, ◌≤◌, length};
 ghost use Rattle.rates.specs.Table.{Sound, Table};
 ghost use Rattle.factors.specs.Basis.{basis};

@@ -1,5 +1,7 @@
 // The roundings, exported under C names: bench/rounding measures the products among them, and tests/divisions.py counts
 // how often the compiled code of each divides. A caller shows what the `requires` asks.
+#![tactic(auto)]
+
 ghost use Rattle.std.specs.Prelude.{◌≡◌, ◌*◌, ◌^◌, ◌<◌, pos, ◌*ℤ◌};
 ghost use Rattle.rounding.specs.Nearest.{nearest, nearest_ℤ};
 ghost use Rattle.rounding.specs.Signed.{integer_of, signed};

@@ -2,6 +2,8 @@
 // part of it. The terms are the crate term_lines'; lists.rt has the amendments, the rows and the members, line by line. The text goes into a
 // buffer that the caller lends, as far as the buffer reaches, and a writer answers the place after it, as in the crate printing. A bound
 // on that place, in a second `ensures` of each, keeps the next in 64 bits; the last has none.
+#![tactic(auto)]
+
 mod lists;
 
 ghost use Rattle.std.specs.Prelude.{◌≤◌, length};

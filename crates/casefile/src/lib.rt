@@ -1,6 +1,8 @@
 // The case file of a valuation, RULES sections 1 to 5: reading is for its form (rule 5.1), accepting for its ranges too
 // (rule 5.2). The crate walk says what a case file is, and the crate whole_walk does the walk; here are the answers. The entries are read_case
 // and accept_case: two words, two functions, two answers. Neither has a `requires`.
+#![tactic(auto)]
+
 ghost use Rattle.std.specs.Prelude.{◌≡◌};
 ghost use Rattle.casefile.specs.Answers.{reading_of, accepting_of, accepting};
 ghost use Rattle.casefile.specs.Stored.{amendments_after, rows_after, members_after};
@@ -10,7 +12,7 @@ use rates::{AGES, Rows};
 use whole_walk::{Walked, walk_lines};
 
 // The answer of reading: the form is right, which says nothing of ranges; or a refusal's number and line.
-#[derive(Drop)]
+#[derive(Clone, Copy)]
 pub enum Reading {
     Read,
     Refused(u64, u64),
@@ -31,7 +33,7 @@ pub fn read_case(case: &[u8]) -> Reading
 
 // The answer of accepting: the plan, with the heading's unit, and the counts of amendments and members; or a refusal's number and
 // line.
-#[derive(Drop)]
+#[derive(Clone, Copy)]
 pub enum Accepting {
     Accepted(Plan, u64, u64),
     Refused(u64, u64),

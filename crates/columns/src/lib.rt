@@ -2,6 +2,8 @@
 // with a place for every age, and it is filled when it is first needed, by the one fill of the crate year_steps.
 // specs/Columns.antt says what the columns hold that are filled, and that they stay so; no other is read. Each `requires` is
 // what an accepted plan and member show.
+#![tactic(auto)]
+
 ghost use Rattle.std.specs.Prelude.{◌≡◌, ◌-◌, ◌≤◌, get_or};
 ghost use Rattle.rates.specs.Table.{Table, first_age};
 ghost use Rattle.factors.specs.Basis.{basis};

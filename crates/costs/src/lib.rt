@@ -3,9 +3,10 @@
 // statements about them, the equal forms of the liability and the limits; specs/Valuation.antt the answer for plain
 // values. There is no code here: the figures are made of a member's parts (crate parts), and an engine works the parts
 // (plain_engine, shared_engine).
+#![tactic(auto)]
 
 // The benefit B(r), its present value V, the normal cost N and the liability L, in cents.
-#[derive(Drop)]
+#[derive(Clone, Copy)]
 pub struct Figures {
     pub benefit: u64,
     pub value: u64,
@@ -14,7 +15,7 @@ pub struct Figures {
 }
 
 // The answer for plain values: the figures, or a refusal's number and line. The line of plain values is 0 (rule 5.3).
-#[derive(Drop)]
+#[derive(Clone, Copy)]
 pub enum Valuation {
     Valued(Figures),
     Refused(u64, u64),

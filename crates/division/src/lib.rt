@@ -1,6 +1,8 @@
 // One long division of two words by one, which gives the quotient and the remainder together: rule 6.4.
 // words.rt has numbers of two words and their products; what a division's two results are is `DivisionOf`, in
 // specs/Division.antt. Each `requires` is what a caller must show.
+#![tactic(auto)]
+
 pub mod words;
 
 ghost use Rattle.std.specs.Prelude.{◌≡◌, ◌+◌, ◌*◌, ◌<◌};
@@ -10,14 +12,14 @@ ghost use Rattle.division.specs.Division.{DivisionOf, Reciprocal, Short, Step, u
 use words::Wide;
 
 // A quotient, and what is left.
-#[derive(Drop)]
+#[derive(Clone, Copy)]
 pub struct Division {
     pub quotient: u64,
     pub remainder: u64,
 }
 
 // A division on its way: so many times d were taken, and this is left.
-#[derive(Drop)]
+#[derive(Clone, Copy)]
 struct Taken {
     quotient: u64,
     left: Wide,

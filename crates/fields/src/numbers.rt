@@ -4,7 +4,7 @@ ghost use Rattle.fields.specs.Numbers.{is_digit, whole_of, amount_of};
 ghost use Rattle.fields.specs.Values.{field_of, last_of};
 
 // A number, and the place of the byte that ends it; or none.
-#[derive(Drop)]
+#[derive(Clone, Copy)]
 pub enum Field {
     Is(u64, usize),
     NotField,

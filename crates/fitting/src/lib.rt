@@ -1,6 +1,8 @@
 // What fits: the lines of a report, or the line of a refusal, are written whole at the start of the buffer, or the answer
 // is refusal 30 and the buffer as it was. Each is measured before it is written, unless it surely fits. `refusal_line` is an
 // entry and has no `requires`; `fit_lines` asks what accepted members show.
+#![tactic(auto)]
+
 ghost use Rattle.std.specs.Prelude.{◌≡◌, ◌++◌, ◌≤◌, leb, length};
 ghost use Rattle.rounding.specs.Signed.{integer_of};
 ghost use Rattle.walk.specs.Lines.{most_members};
@@ -16,7 +18,7 @@ use rules::refusals::NO_ROOM;
 use totals::Totals;
 
 // The answer of an entry that writes: how many bytes, or a refusal's number and line.
-#[derive(Drop)]
+#[derive(Clone, Copy)]
 pub enum Answer {
     Written(usize),
     Refused(u64, u64),

@@ -3,3 +3,4 @@
 // two are equal, and whether one keeps a limit.
 // No program computes with them, so this crate has no code.
 // The definitions are in specs/; the laws, which the proofs of other crates cite, are in proofs/.
+#![tactic(auto)]

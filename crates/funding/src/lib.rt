@@ -1,5 +1,7 @@
 // What a plan has yet to pay, rules 11.2 and 11.3: the unfunded liability, and the yearly payment that pays it off. What they are of a plan's
 // members is in crate `totals` (specs/Totals.antt).
+#![tactic(auto)]
+
 ghost use Rattle.std.specs.Prelude.{◌≡◌, ◌≤◌, pos, ◌-ℤ◌, ◌*ℤ◌};
 ghost use Rattle.rounding.specs.Nearest.{nearest_ℤ};
 ghost use Rattle.rounding.specs.Signed.{integer_of, signed};

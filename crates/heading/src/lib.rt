@@ -1,4 +1,6 @@
 // The heading, RULES section 2: the plan's own terms.
+#![tactic(auto)]
+
 ghost use Rattle.std.specs.Prelude.{◌≡◌, ℕ};
 ghost use Rattle.fields.specs.declared.Line.TheVariants.{Good};
 ghost use Rattle.fields.specs.Split.{upto_of};

@@ -1,5 +1,7 @@
 // A whole case in plain values, rule 5.7: its first refusal's number, 0 for none. specs/Refusing.antt has what every contract is an
 // equation with, the order of the rules; and specs/Statements.antt that nothing is refused exactly where every rule is kept.
+#![tactic(auto)]
+
 ghost use Rattle.std.specs.Prelude.{◌≡◌, [], map, ◌≤◌, ◌<◌, length, get_or};
 ghost use Rattle.rule_order.specs.Acceptance.{plan_refusal};
 ghost use Rattle.walk.specs.Lines.{most_members, member_from};

@@ -1,6 +1,8 @@
 // The library for programs in C and Rust: the entries of valuation, writer, fitting, casefile and plain_engine, exported under C names. An export
 // answers a refusal's number, 0 for none; a line or a count goes to a place that the caller lends. None has a
 // `requires`, and every place that is lent has its equation on every path. embed/kuyeshan.h declares them for C.
+#![tactic(auto)]
+
 ghost use Rattle.std.specs.Prelude.{◌≡◌, false, length};
 ghost use Rattle.rules.specs.Heading.{plan_from};
 ghost use Rattle.amendments.specs.Force.{amendments_from};

@@ -1,5 +1,7 @@
 // The range rules of a member line after those before it, rules 4.2 to 4.7, 7.8 and 7.10: its own, and the sum of its person, to which its
 // benefit is added.
+#![tactic(auto)]
+
 ghost use Rattle.std.specs.Prelude.{◌≡◌, true, cond, ℕ, ◌+◌, ◌<◌, eqb};
 ghost use Rattle.plan.specs.Benefit.{B};
 ghost use Rattle.rule_order.specs.Acceptance.{plan_refusal, line_refusal};

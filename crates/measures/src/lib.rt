@@ -1,6 +1,8 @@
 // What a method counts by, worked from a plan, a table and a member: benefit, years, weights or a temporary annuity. The
 // annuities are an engine's: it hands in G of all ages, and T or Z from entry up to k and up to r, and here the parts are
 // made of them, for any engine alike.
+#![tactic(auto)]
+
 ghost use Rattle.std.specs.Prelude.{◌≡◌, ◌-◌, ◌≤◌, ◌<◌};
 ghost use Rattle.rates.specs.Table.{weight};
 ghost use Rattle.factors.specs.Factors.{G};

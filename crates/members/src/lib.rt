@@ -1,5 +1,7 @@
 // The lines after the rows, RULES section 4, one after the other: the members and the end. The crate tails reads a line, and the crate line_rules
 // has the range rules of a member's.
+#![tactic(auto)]
+
 ghost use Rattle.std.specs.Prelude.{◌≡◌, true, ◌≤◌};
 ghost use Rattle.rule_order.specs.Acceptance.{plan_refusal};
 ghost use Rattle.walk.specs.Step.{Head};
@@ -14,7 +16,7 @@ use rules::refusals::{BYTES_AFTER, CUT_OFF, MEMBER_FORM, SURPLUS_MEMBER, WRONG_C
 use tails::{Kind, member_from, tail_line};
 
 // The count of members, or the first refusal's number and line.
-#[derive(Drop)]
+#[derive(Clone, Copy)]
 pub enum Count {
     Counted(u64),
     Refused(u64, u64),

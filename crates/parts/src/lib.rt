@@ -2,6 +2,8 @@
 // works the annuities, and the crate measures makes the parts of them; here nothing is known of a plan, a table or an age.
 // specs/Parts.antt has the parts of a setting, and the one law over the five methods, that they give its figures. Each
 // `requires` is what an engine shows.
+#![tactic(auto)]
+
 ghost use Rattle.std.specs.Prelude.{◌≡◌, ◌*◌, ◌≤◌, ◌<◌};
 ghost use Rattle.rounding.specs.Nearest.{nearest};
 ghost use Rattle.factors.specs.Factors.{S};
@@ -13,7 +15,7 @@ use plan::Method;
 
 // B(r), G(x) and G(y); then, by the method's own measure, what is earned up to x, what the year from x on adds, and what
 // both are divided by.
-#[derive(Drop)]
+#[derive(Clone, Copy)]
 pub struct Parts {
     pub benefit: u64,
     pub deferred: u64,

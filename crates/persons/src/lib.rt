@@ -2,6 +2,8 @@
 // and not by going through the lines before: specs/Held.antt has what is held for a person, as a scan, and the contract of
 // `add` is an equation with that. specs/Search.antt has the way to a person. That what is held is the sum over the lines
 // before is for the loop over the lines to show (crate `members`).
+#![tactic(auto)]
+
 ghost use Rattle.std.specs.Prelude.{◌≡◌, cond, ℕ, ◌+◌, ◌≤◌, ◌<◌, leb, eqb};
 ghost use Rattle.rules.specs.Refusals.{high_sum};
 ghost use Rattle.rules.specs.Rules.{unless as Rules·unless};

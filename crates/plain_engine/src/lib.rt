@@ -1,6 +1,8 @@
 // The plain engine: a member's figures by factors of its own. annuities.rt works the annuities; the crate measures makes the parts
 // of them, and the crate parts the figures. `value_member` is the entry: it has no `requires`, and its contract is the figures'
 // equation and the limits on its N and L.
+#![tactic(auto)]
+
 mod annuities;
 
 ghost use Rattle.std.specs.Prelude.{◌≡◌};

@@ -1,4 +1,6 @@
 // The figures of all members by the plain engine, rules 9.11 and 9.12, in their array.
+#![tactic(auto)]
+
 ghost use Rattle.all_figures.specs.Worked.{AcceptedMembers, AreWorked};
 
 use all_figures::{Worked, member_at, numbers_of};

@@ -3,10 +3,12 @@
 // Weights; in Ranges what the benefit asks of a plan and a member; and in Rising the law that the benefit never falls. A formula
 // or method is a code: 1 flat, 2 career, 3 final; 1 AB, 2 BD, 3 BP, 4 CD, 5 CP; so a field that was never set is refused. Money
 // is in cents, a rate in millionths, and each field is wide enough to hold a wrong value.
+#![tactic(auto)]
+
 pub mod benefit;
 
 // Rule 2.4: how the benefit accrues.
-#[derive(Drop)]
+#[derive(Clone, Copy)]
 pub enum Formula {
     Flat,
     Career,
@@ -14,7 +16,7 @@ pub enum Formula {
 }
 
 // Rule 2.7, the cost method: accrued benefit; benefit prorate by dollar or percent; cost prorate by dollar or percent.
-#[derive(Drop)]
+#[derive(Clone, Copy)]
 pub enum Method {
     AB,
     BD,
@@ -23,7 +25,7 @@ pub enum Method {
     CP,
 }
 
-#[derive(Drop)]
+#[derive(Clone, Copy)]
 pub struct Plan {
     pub interest: u64,
     pub retire: u64,
@@ -42,7 +44,7 @@ pub const TERMS: usize = 9;
 
 pub type Terms = [u64; TERMS];
 
-#[derive(Drop)]
+#[derive(Clone, Copy)]
 pub struct Member {
     pub id: u64,
     // Rule 4.7: who it is. One person may stand on several lines.
@@ -53,7 +55,7 @@ pub struct Member {
 }
 
 // Rule 2.11: an amendment to the unit.
-#[derive(Drop)]
+#[derive(Clone, Copy)]
 pub struct Amendment {
     pub number: u64,
     // The number that it rests on, 0 for none.

@@ -1,5 +1,7 @@
 // The lines that are printed, rules 13.2 and 13.3: amounts after a number, a signed amount, a pair of numbers. As in the crate printing, a
 // writer puts its text from a place on, and answers the place after it.
+#![tactic(auto)]
+
 ghost use Rattle.std.specs.Prelude.{[], ◌∷◌, ◌++◌, ◌+◌, ◌^◌, ◌≤◌, ◌<◌, length};
 ghost use Rattle.rounding.specs.Signed.{integer_of};
 ghost use Rattle.printing.specs.Amounts.{whole_number, amount};

@@ -3,6 +3,8 @@
 // as far as the buffer reaches, and all its other bytes stay: the contracts say so with `Puts`. A writer answers the place
 // after its text, whether that fits or not, so that with an empty buffer it only measures. What it requires is that this
 // place is a number of 64 bits, which its second `ensures` hands on.
+#![tactic(auto)]
+
 ghost use Rattle.std.specs.Prelude.{◌≡◌, ◌&&◌, [], ◌∷◌, ◌+◌, ◌%◌, ◌^◌, ◌≤◌, ◌<◌, ltb, length};
 ghost use Rattle.rounding.specs.Signed.{integer_of};
 ghost use Rattle.printing.specs.Amounts.{digits, whole_number, amount, signed_amount};

@@ -2,6 +2,8 @@
 // specs/Rates.antt has what a row's rates make of a million, rule by rule, and the figures worked by hand;
 // specs/Table.antt the rows of a table, and what the code asks of them. An array has a row for each of the 106 ages; that
 // of age k stands at place k - 15. Each `requires` is what an accepted plan shows.
+#![tactic(auto)]
+
 ghost use Rattle.std.specs.Prelude.{◌≡◌, ◌-◌, ◌*◌, ◌≤◌};
 ghost use Rattle.rounding.specs.Nearest.{nearest};
 ghost use Rattle.rates.specs.Rates.{able as Rates·able, stays};

@@ -1,6 +1,8 @@
 // The lines of a report, RULES section 13: those of the members and of the plan, or the one line of a refusal. A writer
 // puts them at their place and answers the place after them; with no bytes to write to it measures. Each `requires` is what accepted
 // members show.
+#![tactic(auto)]
+
 ghost use Rattle.std.specs.Prelude.{◌++◌, ◌+◌, ◌^◌, ◌≤◌, ◌<◌};
 ghost use Rattle.rounding.specs.Signed.{integer_of};
 ghost use Rattle.walk.specs.Lines.{most_members};

@@ -4,6 +4,8 @@
 // rounded quotients that every figure is made with, each from one such pair (rule 6.4, stated in specs/OnePair.antt).
 // The rule itself is `nearest`, in specs/Nearest.antt; callers rest on its laws, in proofs/NearestLaws.antt, and not on
 // its text. Each `requires` is what a caller must show.
+#![tactic(auto)]
+
 ghost use Rattle.std.specs.Prelude.{◌≡◌, ◌+◌, ◌*◌, ◌^◌, ◌<◌, pos, ◌*ℤ◌};
 ghost use Rattle.division.specs.Words.{value};
 ghost use Rattle.rounding.specs.Nearest.{nearest, nearest_ℤ};
@@ -66,7 +68,7 @@ pub fn mul_mul_div_nearest(a: u64, b: u64, c: u64, d: u64) -> u64
 }
 
 // An integer: a sign beside a size. Zero has no sign.
-#[derive(Drop)]
+#[derive(Clone, Copy)]
 pub struct Signed {
     pub negative: bool,
     pub size: u64,

@@ -1,5 +1,7 @@
 // The rows of the table, RULES section 3: the rules of each, and their order; specs/Table.antt has what every contract is an
 // equation with.
+#![tactic(auto)]
+
 ghost use Rattle.std.specs.Prelude.{◌≡◌, ◌&&◌, cond, true, eqb, leb};
 ghost use Rattle.rates.specs.Table.{first_age, ages};
 ghost use Rattle.rules.specs.Refusals.{out_of_range, wrong_last_death, wrong_weight};
@@ -12,7 +14,7 @@ use rules::refusals::{OUT_OF_RANGE, WRONG_LAST_DEATH, WRONG_WEIGHT};
 use rules::{between, both, or_else, unless};
 
 // The four numbers of a row, as wide as a file can hold them.
-#[derive(Drop)]
+#[derive(Clone, Copy)]
 pub struct Row {
     pub death: u64,
     pub withdrawal: u64,

@@ -1,4 +1,6 @@
 // The table, RULES section 3: a row for each age from 15 to 120.
+#![tactic(auto)]
+
 ghost use Rattle.std.specs.Prelude.{◌≡◌, map, ℕ, ◌≤◌};
 ghost use Rattle.fields.specs.declared.Line.TheVariants.{Good};
 ghost use Rattle.fields.specs.Split.{upto_of};

@@ -4,3 +4,4 @@
 // refusal of each; specs/Valued.antt that the plan as it is valued is accepted too; specs/Rising.antt the law of rule 7.9 for a plan
 // that is accepted; and specs/Lone.antt that rule 7.10 refuses no lone member. This crate has no code: the crate acceptance finds the
 // first refusal. What an accepted plan and member keep is in proofs/Facts.antt.
+#![tactic(auto)]

@@ -2,6 +2,8 @@
 // every rule is made of, those of the table too, which the crate row_rules has. A rule answers its refusal number, or 0 where it is
 // kept. specs/ has what every contract is an equation with: the numbers in Refusals, what a rule is in Rules, and the list of the
 // rules in Heading.
+#![tactic(auto)]
+
 pub mod refusals;
 pub mod terms;
 

@@ -1,6 +1,8 @@
 // The shared engine: a member's figures by annuities that all members of a plan share. G is filled once a plan. T, by CD, and
 // Z, by CP, stand in columns, each of which is filled when a member first needs it. The crate measures makes the parts
 // of them, as for the plain engine, and the crate parts the figures. specs/Shared.antt says what is kept between two members.
+#![tactic(auto)]
+
 ghost use Rattle.std.specs.Prelude.{◌≡◌, ◌≤◌};
 ghost use Rattle.factors.specs.Factors.{G};
 ghost use Rattle.year_steps.specs.Filled.{Filled};

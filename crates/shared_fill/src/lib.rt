@@ -1,5 +1,7 @@
 // The figures of all members by the shared engine, rules 8.11 and 9.12, in their array: what members share is worked once, or where it is first
 // needed.
+#![tactic(auto)]
+
 ghost use Rattle.shared_engine.specs.Shared.{Shared};
 ghost use Rattle.all_figures.specs.Worked.{AcceptedMembers, AreWorked};
 

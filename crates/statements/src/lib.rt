@@ -4,3 +4,4 @@
 // specs/Statements.antt has them; specs/Engines.antt, that both engines give the same bytes and refusals (rule 9.12); and
 // specs/Figures.antt the figures worked by hand (RULES section 14).
 // No program computes with them, so this crate has no code.
+#![tactic(auto)]

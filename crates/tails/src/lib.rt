@@ -1,5 +1,7 @@
 // A line after the rows, RULES section 4: a member's or the end's, read for its form. specs/Tails.antt has what the code answers of it. The crate
 // members goes from line to line.
+#![tactic(auto)]
+
 ghost use Rattle.std.specs.Prelude.{◌≡◌, true, false};
 ghost use Rattle.fields.specs.Text.{bytes};
 ghost use Rattle.fields.specs.Split.{starts_of};
@@ -12,7 +14,7 @@ use plan::Member;
 use values::{four_and_amount, one_value};
 
 // What kind of line stands after the rows: a member or the end, with the place of its byte 10; or one of three faults.
-#[derive(Drop)]
+#[derive(Clone, Copy)]
 pub enum Kind {
     Listed(usize),
     End(usize),

@@ -1,4 +1,6 @@
 // The terms, rules 2.1 and 13.6, each written on its line; and the line of a key and a whole number, which the end is too.
+#![tactic(auto)]
+
 ghost use Rattle.std.specs.Prelude.{[], ◌∷◌, ◌++◌, ◌+◌, ◌^◌, ◌≤◌, ◌<◌, length, take, drop};
 ghost use Rattle.fields.specs.Text.{bytes};
 ghost use Rattle.printing.specs.Amounts.{whole_number, amount};

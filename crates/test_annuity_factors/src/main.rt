@@ -2,6 +2,8 @@
 // letter. A case is bytes, a number's little end first: the interest i in 2, then r, pay, e and m in 1 each, then for
 // each age 15 to 120 its death, withdrawal, disability and weight in 4 each. A case that the annuity functions do not take
 // is skipped. What it must write was made by another program, tests/annuity_factors.py.
+#![tactic(auto)]
+
 ghost use Rattle.std.specs.Prelude.{true, ◌≡◌, ◌≤◌};
 ghost use Rattle.test_annuity_factors.specs.Question.{Question};
 

@@ -2,6 +2,8 @@
 // and what accepting answers: a line for each. Of an accepted case it writes the plan's numbers, with the heading's unit, the
 // counts of amendments and members, and a check sum each of the amendments, the rows and the members that were handed on. What it must write was made by another program,
 // tests/case_files.py.
+#![tactic(auto)]
+
 use casefile::{Accepting, Reading};
 use libc::{STDIN_FILENO, STDOUT_FILENO};
 use plan::{Amendments, MOST_AMENDMENTS, MOST_MEMBERS, Members, Plan};

@@ -2,6 +2,8 @@
 // little end first. For each it writes a line, what `valuation::print_case` answers, and then the bytes of the buffer and
 // the 16 that follow it, all of which it had filled with the byte 165. What it must write was made by another program,
 // tests/case_prints.py.
+#![tactic(auto)]
+
 use fitting::Answer;
 use libc::{STDIN_FILENO, STDOUT_FILENO};
 use test_support::{number_at, refused};

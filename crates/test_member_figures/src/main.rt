@@ -5,6 +5,8 @@
 // number that it rests on, its addition and whether it is struck, in 8 each, then for each age 15 to 120 its death, withdrawal, disability and
 // weight in 4 each, then the member's id, person, entry, age and salary in 8 each. What it must write was made by another
 // program, tests/member_figures.py.
+#![tactic(auto)]
+
 ghost use Rattle.std.specs.Prelude.{◌+◌, ◌≤◌, ◌<◌};
 
 use acceptance::{Acceptance, accept_member, accept_plan};

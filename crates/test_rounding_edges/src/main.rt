@@ -1,5 +1,7 @@
 // Runs the products, divisions and roundings at the edges of 32 and 64 bits and writes what they answer, a line for
 // each choice of factors and divisor. What it must write was made by another program, tests/rounding_edges.py.
+#![tactic(auto)]
+
 ghost use Rattle.std.specs.Prelude.{true, ◌≡◌, ◌*◌, ◌^◌, ◌<◌};
 ghost use Rattle.division.specs.Division.{DivisionOf};
 ghost use Rattle.division.specs.Words.{value};

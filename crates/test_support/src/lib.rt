@@ -1,4 +1,6 @@
 // What the test programs share: numbers and rows out of bytes, a number's little end first, and the line of a refusal.
+#![tactic(auto)]
+
 ghost use Rattle.std.specs.Prelude.{◌+◌, ◌≤◌, ◌<◌, length};
 
 use libc::STDOUT_FILENO;

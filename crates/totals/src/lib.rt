@@ -1,6 +1,8 @@
 // The figures of all members, by an engine, and their sums: rules 9.12 and 11.1. `work` has the array of figures filled by either engine (crates
 // plain_fill and shared_fill) and sums them, one after the other; the text is the crate report's. specs/Totals.antt has the totals and the plan's own figures, RULES
 // section 11, which the crate funding works; specs/Sums.antt the sums over the array, and specs/Choice.antt which engine works.
+#![tactic(auto)]
+
 ghost use Rattle.std.specs.Prelude.{◌≡◌, ◌≤◌};
 ghost use Rattle.walk.specs.Lines.{most_members};
 ghost use Rattle.all_figures.specs.Worked.{AcceptedMembers, members_in, SmallIn, AreWorked};
@@ -15,7 +17,7 @@ use rates::Rows;
 use shared_fill::fill_shared;
 
 // Rule 11.1: the sums of the printed V, N and L, in cents.
-#[derive(Drop)]
+#[derive(Clone, Copy)]
 pub struct Totals {
     pub value: u64,
     pub cost: u64,
@@ -23,7 +25,7 @@ pub struct Totals {
 }
 
 // Rule 9.12: which engine works the figures, the plain one or the shared one; `ByCount` leaves it to the count of members.
-#[derive(Drop)]
+#[derive(Clone, Copy)]
 pub enum EngineChoice {
     Plain,
     Shared,

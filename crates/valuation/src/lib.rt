@@ -2,6 +2,8 @@
 // plan has yet to pay the crate funding's, the lines the crate report's, and that they are written where they fit is the crate
 // fitting's. The entries are value_case, value_case_by and print_case, and those of the layers below, which are passed on:
 // refusal_line, read_case, accept_case, accept_plan, accept_member, value_member. None has a `requires`.
+#![tactic(auto)]
+
 ghost use Rattle.std.specs.Prelude.{◌≡◌, ◌≤◌, length};
 ghost use Rattle.walk.specs.Outcome.{refusal};
 ghost use Rattle.report.specs.Lines.{printed};

@@ -2,6 +2,8 @@
 // thin main over the library: the bytes that it prints are those of `valuation::print_case`. A read that fails prints
 // nothing there, and a read or a write that fails is told on standard error: a program in Rattle has no exit status, so
 // bin/value looks whether what was printed is whole.
+#![tactic(auto)]
+
 ghost use Rattle.std.specs.Prelude.{◌≡◌, length};
 ghost use Rattle.fitting.specs.declared.Answer.TheVariants.{Written};
 ghost use Rattle.fitting.specs.Fitting.{answer, buffer};

@@ -1,6 +1,8 @@
 // A line of a key, whole numbers with a comma after each, and a last value. There are four kinds of them, and a function
 // for each: where the fields stand one after the other, in a function that one other calls, LLVM inlines them. It doesn't
 // where they are read in a loop, or where rows and members share a function.
+#![tactic(auto)]
+
 ghost use Rattle.std.specs.Prelude.{◌≡◌, false, cond, ℕ};
 ghost use Rattle.fields.specs.declared.Line.TheVariants.{Good, Wrong, Cut};
 ghost use Rattle.fields.specs.Split.{has_of, upto_of};

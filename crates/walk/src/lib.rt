@@ -2,3 +2,4 @@
 // have the forms of the lines, specs/Step.antt what one line does after those before it, specs/Walk.antt the whole file,
 // specs/Kept.antt and specs/Answers.antt what is stated of it. No program computes with them, so this crate has no code:
 // the crates heading, amend_lines, rows, members and whole_walk have the code that does the walk.
+#![tactic(auto)]

@@ -1,5 +1,7 @@
 // The walk over a whole case file, RULES sections 1 to 5, done one part after the other: those of the crates heading, amend_lines, rows and
 // members. The crate walk says what it is, and specs/Stretch.antt what the parts promise together.
+#![tactic(auto)]
+
 ghost use Rattle.std.specs.Prelude.{◌≡◌, true, [], ◌≤◌, take};
 ghost use Rattle.rules.specs.Heading.{plan_from};
 ghost use Rattle.amendments.specs.Force.{amendments_from, as_valued};
@@ -24,7 +26,7 @@ use stretches::Stretch;
 
 // What the walk gives: the plan with the heading's unit, and the counts of amendments and members; or the first refusal's number
 // and line.
-#[derive(Drop)]
+#[derive(Clone, Copy)]
 pub enum Walked {
     Whole(Plan, u64, u64),
     Refused(u64, u64),

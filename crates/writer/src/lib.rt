@@ -1,6 +1,8 @@
 // The case file of plain values, rules 5.7 and 13.6 to 13.9. Which values are refused is the crate judging's, the text the crate
 // written's, and its lines the crate case_lines'. The entry is write_case, and has no `requires`. specs/Files.antt has what it answers, and
 // specs/Statements.antt that accepting undoes it.
+#![tactic(auto)]
+
 ghost use Rattle.std.specs.Prelude.{◌≡◌, leb, length};
 ghost use Rattle.judging.specs.Refusing.{plain_case, case_refusal};
 ghost use Rattle.written.specs.Written.{written};

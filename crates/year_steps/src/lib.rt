@@ -2,6 +2,8 @@
 // crate annuity, and the columns of the crate columns. The crate `rates` has the table, and staying by its rows; the crate `factors`
 // the factors, rounded and exact. An array has a place for each of the 106 ages; age k stands at place k - 15. Each `requires` is
 // what an accepted plan shows.
+#![tactic(auto)]
+
 ghost use Rattle.std.specs.Prelude.{◌≡◌, ◌+◌, ◌-◌, ◌*◌, ◌≤◌, get_or};
 ghost use Rattle.rounding.specs.Nearest.{nearest};
 ghost use Rattle.rates.specs.Rates.{stays};
@@ -35,7 +37,7 @@ pub fn of_age(a: &Factors, k: usize) -> u64
 }
 
 // What is paid at the start of each year: nothing, one, or the age's weight.
-#[derive(Drop)]
+#[derive(Clone, Copy)]
 pub enum Amount {
     Nothing,
     One,
