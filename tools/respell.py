@@ -72,9 +72,15 @@ def camel(name):
 
 def own_names():
     """Each odd name that a proof or a spec declares or binds, and whether it is a type."""
-    types, words = set(), set()
-    for path in files(".antt"):
+    types, words, declared, lent = set(), set(), set(), set()
+    crates = set(os.listdir("crates"))
+    for path in files(".antt", ".rt"):
         text = open(path, encoding="utf-8").read()
+        for m in re.finditer(r"^(?:ghost )?use ([\w.+]+)\.\{([^}]*)\}", text, re.M):
+            if m.group(1).split(".")[0] != "Rattle" or m.group(1).split(".")[1] not in crates:
+                lent.update(n.strip() for n in m.group(2).split(","))
+        if path.endswith(".rt"):
+            continue
         for line in text.split("\n"):
             if line.strip().startswith("--") or line.startswith("use "):
                 continue
@@ -85,6 +91,7 @@ def own_names():
             m = DECLARED.match(line)
             if m:
                 (types if re.search(r"Type\s+\d\s*$", m.group(3)) else words).add(m.group(2))
+                declared.add(m.group(2))
             for m in re.finditer(r"\blet ([^\s:(){},.=|;]+)\s*[:=]", line):
                 words.add(m.group(1))
             for m in re.finditer(r"[({]([^():{}]+?) : ", line):
@@ -95,6 +102,8 @@ def own_names():
             m = re.match(r"\s*([^\s:(){},.=|;]+(?:\s+[^:=]+?)?)\s+=(?:\s|$)", line)
             if m:
                 words.update(w for w in NAME.findall(m.group(1)))
+    # what a library lends keeps its name, where no file here declares one of that name
+    words -= lent - declared
     both = types & words
     new = {}
     for n in types | words:

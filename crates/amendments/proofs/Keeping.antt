@@ -8,7 +8,7 @@ use lib.ListN.{length, get_or, take, drop, length-append, length-map}
 use lib.Seq.{split_at}
 use lib.Dec.{leb, ltb, eqb}
 use native.Mathlib.Omega.{arith}
-use borrow.Author.Tests.{leb-true, leb-false, ltb-true, eqb-true, le-leb, lt-leb, lt-ltb, eq_eqb}
+use borrow.Author.Tests.{leb-true, leb-false, ltb-true, eqb-true, le-leb, lt-leb, lt-ltb, eq-eqb}
 use Rattle.plan.specs.declared.Plan.{Plan}
 use Rattle.plan.specs.declared.Amendment.{Amendment}
 use Rattle.rules.specs.Rules.{unless, between}
@@ -59,7 +59,7 @@ unfolding listed
 in_listed n b [] i e = absurd i
 in_listed n b (a ∷ l) i e =
     ⊎_elim
-    (λ (h : b ≡ a). simp (eq_eqb a.number n (ap (λ (x : Amendment). x.number) (sym h) ∙ e)))
+    (λ (h : b ≡ a). simp (eq-eqb a.number n (ap (λ (x : Amendment). x.number) (sym h) ∙ e)))
     (λ (j : In b l). or_right (eqb a.number n) (listed n l) (in_listed n b l j e))
     i
 
@@ -108,7 +108,7 @@ facts_kept before a f =
     )
   where
     rests : (a.rests ≡ 0) ⊎ (listed a.rests before ≡ true) → unless (eqb a.rests 0 || listed a.rests before) 54 ≡ 0
-    rests = ⊎_elim (λ (h : a.rests ≡ 0). simp (eq_eqb a.rests 0 h)) (λ (h : listed a.rests before ≡ true). ap (λ (t : Bool). unless t 54) (or_right (eqb a.rests 0) (listed a.rests before) h))
+    rests = ⊎_elim (λ (h : a.rests ≡ 0). simp (eq-eqb a.rests 0 h)) (λ (h : listed a.rests before ≡ true). ap (λ (t : Bool). unless t 54) (or_right (eqb a.rests 0) (listed a.rests before) h))
 
 -- ---- each of a list
 pub each_next : (b l : List Amendment) (a : Amendment) → each_refusal b (a ∷ l) ≡ 0 → (amendment_refusal b a ≡ 0) × (each_refusal (b ++ a ∷ []) l ≡ 0)

@@ -3,11 +3,11 @@ use Prim.Native.Nat.{ℕ, zero, suc, ◌+◌, ◌-◌, ◌*◌, ◌≤◌, ◌<�
 use mathlib.Core.Path.{◌≡◌, refl, sym, ap, ◌∙◌}
 use mathlib.Core.List.{List, [], ◌∷◌, ◌++◌, map-append}
 use mathlib.Core.Bool.{Bool, true, false, cond}
-use lib.ListN.{length, get_or, take, drop, set, length-set, drop_of_length_le}
+use lib.ListN.{length, get_or, take, drop, set, length-set, drop_of_length-le}
 use lib.Seq.{drop-cons, take-suc, take-suc-set}
 use native.Mathlib.Omega.{arith}
 use native.Mathlib.Numerals.{add-one}
-use borrow.Author.Tests.{eq_eqb, ne_eqb}
+use borrow.Author.Tests.{eq-eqb, ne_eqb}
 use Rattle.plan.specs.declared.Amendment.{Amendment}
 use Rattle.rules.proofs.RuleLaws.{first_refuses, first_passes, first_alone}
 use Rattle.amendments.specs.Force.{amendment_from, amendments_from, fields_of, listed, stands, joined, in_force_after, in_force, additions}
@@ -32,13 +32,13 @@ module _ (L : List (List ℕ)) where
       rw (add-one j) (ap amendments_from (take-suc L j [] h) ∙ map-append amendment_from (take j L) (get_or L j [] ∷ []))
 
   pub none_left : (j : ℕ) → length L ≤ j → from j ≡ []
-  none_left j h = ap amendments_from (drop_of_length_le L h)
+  none_left j h = ap amendments_from (drop_of_length-le L h)
 
   -- ---- a number that is looked for
   module _ (n j : ℕ) (h : j < length L) where
     pub listed_here : (at j).number ≡ n → true ≡ listed n (from j)
     unfolding listed
-    listed_here e = rw (from_place j h) (simp (eq_eqb (at j).number n e))
+    listed_here e = rw (from_place j h) (simp (eq-eqb (at j).number n e))
 
     pub listed_on : ((at j).number ≡ n → ⊥) → listed n (from j) ≡ listed n (from (j + 1))
     unfolding listed

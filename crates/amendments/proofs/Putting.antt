@@ -7,7 +7,7 @@ use mathlib.Core.Bool.{Bool, true, false, cond, ◌||◌}
 use lib.Dec.{eqb}
 use native.Mathlib.Omega.{arith}
 use native.Mathlib.Nat.{add-zero}
-use borrow.Author.Tests.{eqb-true, eq_eqb}
+use borrow.Author.Tests.{eqb-true, eq-eqb}
 use Rattle.plan.specs.declared.Plan.{Plan}
 use Rattle.plan.specs.declared.Amendment.{Amendment}
 use Rattle.rules.proofs.RuleLaws.{both_true, either_true}
@@ -115,10 +115,10 @@ module _ (l : List Amendment) (e : each_refusal [] l ≡ 0) (b later : List Amen
 
   exactly_from : a.struck ≡ 0 → Rest → In a (in_force l)
   unfolding stands
-  exactly_from unstruck rest = stands_in (simp (eq_eqb a.struck 0 unstruck) (⊎_elim none some rest))
+  exactly_from unstruck rest = stands_in (simp (eq-eqb a.struck 0 unstruck) (⊎_elim none some rest))
     where
       none : a.rests ≡ 0 → (eqb a.rests 0 || listed a.rests earlier) ≡ true
-      none h = simp (eq_eqb a.rests 0 h)
+      none h = simp (eq-eqb a.rests 0 h)
 
       some : (x : Amendment) × In x (in_force l) × (x.number ≡ a.rests) → (eqb a.rests 0 || listed a.rests earlier) ≡ true
       some s = ⊎_elim none (λ (low : s.0.number < a.number). or_right (eqb a.rests 0) (listed a.rests earlier) (in_listed a.rests s.0 earlier (in_before s.0 s.1 low) s.2)) (rest_lower s.0 s.2)

@@ -2,7 +2,7 @@
 use mathlib.Core.Path.{◌≡◌, sym, subst, ◌∙◌}
 use mathlib.Core.List.{List}
 use Prim.Native.Nat.{ℕ}
-use borrow.Author.Tests.{eq_eqb, ne_eqb}
+use borrow.Author.Tests.{eq-eqb, ne_eqb}
 use Rattle.plan.specs.declared.Plan.{Plan}
 use Rattle.plan.specs.declared.Amendment.{Amendment}
 use Rattle.plan.specs.declared.Member.{Member}
@@ -25,7 +25,7 @@ module _ (p : Plan) (l : List Amendment) (rows : List (List ℕ)) (m : Member) w
 
   pub valued : {f : Figures} → lone_refusal p l rows m ≡ 0 → f ≡ figures (as_valued p l) rows m → Valued f ≡ valuation p l rows m
   unfolding valuation
-  valued none e = rw e (simp (eq_eqb (lone_refusal p l rows m) 0 none))
+  valued none e = rw e (simp (eq-eqb (lone_refusal p l rows m) 0 none))
 
 module _ (p : Plan) (rows : List (List ℕ)) (m : Member) where
   own_figures : MemberRanges p rows m → Limited p rows m (Valued (figures p rows m))

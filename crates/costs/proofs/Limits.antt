@@ -2,7 +2,7 @@
 use mathlib.Core.Path.{◌≡◌}
 use mathlib.Core.Bool.{Bool, true, false, cond}
 use Prim.Native.Nat.{ℕ, zero, suc, ◌+◌, ◌-◌, ◌*◌, ◌≤◌, ◌<◌}
-use native.Mathlib.Nat.{le_refl, add-zero, mul_comm, mul-one, mul_assoc, mul-pos, mul-le-mul_left, mul_le_mul_right}
+use native.Mathlib.Nat.{le_refl, add-zero, mul_comm, mul-one, mul_assoc, mul-pos, mul-le-mul_left, mul-le-mul_right}
 use native.Mathlib.Omega.{arith}
 use lib.Dec.{T as Yes, ltb, ltb→lt}
 use Rattle.rounding.specs.Nearest.{nearest}
@@ -72,7 +72,7 @@ Z_share b =
     ∙≼ (numbers b).Z_share_once
 
 share_of : (a b t : ℕ) → a ≤ b → S ≤ t → a over t ≼ b over S
-share_of a b t ha ht = over-≼ a b (omega arith) (omega arith) (omega (arith, mul-le-mul_left b ht, mul_le_mul_right S ha))
+share_of a b t ha ht = over-≼ a b (omega arith) (omega arith) (omega (arith, mul-le-mul_left b ht, mul-le-mul_right S ha))
 
 -- the half counts W(k) / W(y) times too, since that is 1 at least
 weighted : (b v w : ℕ) → 0 < v → v ≤ w → strays (PV_strays b) (PV_top b) (w over v) (w over v ⊗ Z_part) ≼ (whole 1 ⊕ 530355 over 10000 ⊗ b over S) ⊗ w over v
@@ -229,7 +229,7 @@ N_limit_most c sound AB k = omega (arith, sound.capped)
 N_limit_most c sound BD k = omega (arith, sound.capped)
 N_limit_most c sound BP k = omega (arith, sound.capped)
 N_limit_most c sound CD k = omega (arith, sound.capped)
-N_limit_most c sound CP k = omega (arith, W_some c sound, mul_le_mul_right (W c k * W c c.y) sound.capped)
+N_limit_most c sound CP k = omega (arith, W_some c sound, mul-le-mul_right (W c k * W c c.y) sound.capped)
 
 L_limit_most : (c : Setting) → SoundSetting c → (m : Method) → L_limit c m ≼ 15 over 1
 unfolding L_limit ◌over◌ whole ◌⊕◌ ◌⊗◌

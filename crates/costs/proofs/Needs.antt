@@ -1,7 +1,7 @@
 -- What is known of an accepted member: its setting is sound, its ages lie in the table, and its factors have their sizes.
 use mathlib.Core.List.{List}
 use Prim.Native.Nat.{ℕ, ◌-◌, ◌*◌, ◌≤◌}
-use native.Mathlib.Nat.{mul_le_mul, mul_le_mul_right}
+use native.Mathlib.Nat.{mul-le-mul, mul-le-mul_right}
 use native.Mathlib.Omega.{arith}
 use Rattle.rounding.specs.Nearest.{nearest}
 use Rattle.rounding.proofs.NearestLaws.{nearest_mono, nearest_exact}
@@ -20,7 +20,7 @@ use Rattle.costs.specs.Valuation.{plan_basis, setting_of}
 -- a product with a factor of 71 S at most, rounded, is 71 times the benefit at most
 pub worth_most : (benefit deferred : ℕ) → deferred ≤ 71 * S → nearest (benefit * deferred) S ≤ benefit * 71
 worth_most benefit deferred h =
-    omega (arith, nearest_mono (benefit * deferred) (benefit * 71 * S) S (omega arith) (omega (arith, mul_le_mul {n₁ = benefit} {n₂ = benefit} (omega arith) h)), nearest_exact (benefit * 71) S (omega arith))
+    omega (arith, nearest_mono (benefit * deferred) (benefit * 71 * S) S (omega arith) (omega (arith, mul-le-mul {n₁ = benefit} {n₂ = benefit} (omega arith) h)), nearest_exact (benefit * 71) S (omega arith))
 
 pub plan_fair : (p : Plan) (rows : List (List ℕ)) → Fair (plan_basis p rows)
 plan_fair p rows = payable_fair _ (basis_fair rows p.retire p.interest)
@@ -53,9 +53,9 @@ module _ (p : Plan) (rows : List (List ℕ)) (m : Member) (accepted : MemberRang
 
   pub G_small : (k : ℕ) → G (plan_basis p rows) k ≤ 71 * S
   G_small k =
-      omega (arith, G_most (plan_basis p rows) (plan_fair p rows) k (omega (arith, facts.head.retire.1)), mul_le_mul_right {m = 121 - p.retire} {n = 71} S (omega (arith, facts.head.retire.0)))
+      omega (arith, G_most (plan_basis p rows) (plan_fair p rows) k (omega (arith, facts.head.retire.1)), mul-le-mul_right {m = 121 - p.retire} {n = 71} S (omega (arith, facts.head.retire.0)))
 
   -- the pay annuity from entry pays 1000 at least
   pub pay_least : 1000 * S ≤ Z (plan_basis p rows) m.entry p.retire
   pay_least =
-      omega (arith, Z_least (plan_basis p rows) m.entry p.retire accepted.in_range.enters, mul_le_mul_right S (facts.least m.entry accepted.in_range.grown (omega (arith, accepted.in_range.enters, facts.head.retire.1))))
+      omega (arith, Z_least (plan_basis p rows) m.entry p.retire accepted.in_range.enters, mul-le-mul_right S (facts.least m.entry accepted.in_range.grown (omega (arith, accepted.in_range.enters, facts.head.retire.1))))

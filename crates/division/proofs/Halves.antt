@@ -1,9 +1,9 @@
 -- Products of digits of 32 bits.
-use Rattle.std.proofs.Common.{◌≡◌, ℕ, ◌+◌, ◌*◌, ◌/◌, ◌%◌, ◌^◌, ◌<◌, ◌≤◌, sym, ◌∙◌, mul_le_mul, lt_of_mul_lt_mul_right, div-add-mod', arith}
+use Rattle.std.proofs.Common.{◌≡◌, ℕ, ◌+◌, ◌*◌, ◌/◌, ◌%◌, ◌^◌, ◌<◌, ◌≤◌, sym, ◌∙◌, mul-le-mul, lt_of_mul-lt-mul_right, div-add-mod', arith}
 
 -- a product of two digits
 digits : (x y : ℕ) → x < 2 ^ 32 → y < 2 ^ 32 → x * y ≤ 0xffff_fffe_0000_0001
-digits x y hx hy = mul_le_mul {n₂ = 0xffff_ffff} {m₂ = 0xffff_ffff} (omega arith) (omega arith)
+digits x y hx hy = mul-le-mul {n₂ = 0xffff_ffff} {m₂ = 0xffff_ffff} (omega arith) (omega arith)
 
 -- the four products of a digit of a and one of b
 pub record Small (a b : ℕ) : Type 0 where
@@ -37,4 +37,4 @@ times_same w h l c ph pl e = omega arith
 -- and it fits a word where the whole fits two
 pub times_fits : (w h l c ph pl : ℕ) → ph * w + pl ≡ l * c → (h * w + l) * c < w * w → h * c + ph < w
 times_fits w h l c ph pl e lt =
-    lt_of_mul_lt_mul_right w {m = h * c + ph} {n = w} (omega (arith, times_same w h l c ph pl e))
+    lt_of_mul-lt-mul_right w {m = h * c + ph} {n = w} (omega (arith, times_same w h l c ph pl e))

@@ -1,5 +1,5 @@
 -- A number has one quotient and one remainder by a divisor: rule 6.4.
-use Rattle.std.proofs.Common.{◌≡◌, ℕ, ◌+◌, ◌*◌, ◌/◌, ◌%◌, ◌<◌, ◌≤◌, ap, mod-lt, lt_of_mul_lt_mul_right, div-add-mod', arith}
+use Rattle.std.proofs.Common.{◌≡◌, ℕ, ◌+◌, ◌*◌, ◌/◌, ◌%◌, ◌<◌, ◌≤◌, ap, mod-lt, lt_of_mul-lt-mul_right, div-add-mod', arith}
 use Rattle.division.specs.declared.Division.{Division}
 use Rattle.division.specs.Division.{DivisionOf}
 
@@ -12,7 +12,7 @@ divides n d h = record { same = div-add-mod' n d; less = omega (arith, mod-lt n 
 -- of two pairs that divide n by d neither has the larger quotient
 no_larger : {n d : ℕ} (s t : Division) → DivisionOf n d s → DivisionOf n d t → s.quotient ≤ t.quotient
 no_larger {d = d} s t hs ht =
-    omega (arith, lt_of_mul_lt_mul_right d {m = s.quotient} {n = t.quotient + 1} (omega arith))
+    omega (arith, lt_of_mul-lt-mul_right d {m = s.quotient} {n = t.quotient + 1} (omega arith))
 
 -- so they are the same
 pub same_pair : {n d : ℕ} (s t : Division) → DivisionOf n d s → DivisionOf n d t → s ≡ t

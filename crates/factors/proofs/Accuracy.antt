@@ -1,6 +1,6 @@
 -- How far each rounded factor lies from its exact fraction.
 use Prim.Native.Nat.{ℕ, ◌-◌, ◌*◌, ◌≤◌, ◌<◌}
-use native.Mathlib.Nat.{le_refl, mul_le_mul_right}
+use native.Mathlib.Nat.{le_refl, mul-le-mul_right}
 use native.Mathlib.Omega.{arith}
 use Rattle.fractions.specs.Ratio.{◌over◌, whole}
 use Rattle.factors.specs.Basis.{Basis, Fair, certain}
@@ -32,7 +32,7 @@ module _ (b : Basis) (fair : Fair b) where
   unfolding Z Z*
   Z_part w k e weights =
       annuity_part b fair (λ j. b.W j * S) (w * S) 0 (whole 0) k (e - k) (whole_part (w * S) 0)
-      (λ j from to. mul_le_mul_right S (weights j from (omega arith)))
+      (λ j from to. mul-le-mul_right S (weights j from (omega arith)))
 
 pub A_accuracy : AccuracyOfA
 A_accuracy b fair k h = halves_apart (A*_proper b k) (halves_more (121 - k) (omega arith) (A_halves b fair k))

@@ -1,7 +1,7 @@
 -- How far a whole number lies from a fraction, as two inequalities over whole numbers: the form in which errors are carried back year by year.
 use mathlib.Core.Path.{◌≡◌, subst}
 use Prim.Native.Nat.{ℕ, ◌+◌, ◌-◌, ◌*◌, ◌≤◌, ◌<◌}
-use native.Mathlib.Nat.{mul_le_mul_right, mul-le-mul_left}
+use native.Mathlib.Nat.{mul-le-mul_right, mul-le-mul_left}
 use native.Mathlib.Omega.{arith}
 use Rattle.fractions.specs.Ratio.{Ratio, ◌over◌, whole, ◌⊕◌, ◌⊝◌, ◌⊗◌, Proper, ◌≼◌}
 use Rattle.fractions.specs.Fraction.{fraction, Apart}
@@ -19,7 +19,7 @@ pub record Part (s f : ℕ) (a : Ratio) : Type 0 where
   pub above : 2 * (s * a.upper) ≤ 2 * (s * (f * a.lower)) + a.upper
 
 pub halves_more : (m : ℕ) {n f : ℕ} {a : Ratio} → n ≤ m → Halves n f a → Halves m f a
-halves_more m {n} {f} {a} h w = omega (arith, mul_le_mul_right a.lower h)
+halves_more m {n} {f} {a} h w = omega (arith, mul-le-mul_right a.lower h)
 
 -- a whole number more on both sides
 pub halves_plus : (m : ℕ) {n f : ℕ} {a : Ratio} → Halves n f a → Halves n (m + f) (whole m ⊕ a)

@@ -5,7 +5,7 @@ use mathlib.Core.Bool.{Bool, true, false, cond}
 use Prim.Native.Nat.{◌+◌, ◌-◌, ◌*◌, ◌≤◌}
 use native.Mathlib.Omega.{arith}
 use lib.Dec.{eqb}
-use borrow.Author.Tests.{eq_eqb, ne_eqb}
+use borrow.Author.Tests.{eq-eqb, ne_eqb}
 use Rattle.fractions.specs.Ratio.{◌over◌, whole, ◌⊕◌, ◌⊗◌, Proper, ◌≈◌, ◌≼◌}
 use Rattle.fractions.proofs.RatioLaws.{over_proper, whole_proper, ⊝-proper, ⊗-proper}
 use Rattle.fractions.proofs.OrderLaws.{◌∙≼◌, ⊝-≼}
@@ -56,11 +56,11 @@ module _ (b : Basis) where
 
   pub pension_monthly : pay ≡ 12 → pension b + 458333333 ≡ A b r
   unfolding pension
-  pension_monthly h = simp (eq_eqb pay 12 h) (omega (arith, A_least b r))
+  pension_monthly h = simp (eq-eqb pay 12 h) (omega (arith, A_least b r))
 
   pub pension*_monthly : pay ≡ 12 → pension* b ⊕ 11 over 24 ⊗ whole S ≈ A* b r
   unfolding pension*
-  pension*_monthly h = simp (eq_eqb pay 12 h) (⊝-⊕ monthly_in_it)
+  pension*_monthly h = simp (eq-eqb pay 12 h) (⊝-⊕ monthly_in_it)
 
   -- ---- sizes: it stays above 0
   pub pension_least : 541666667 ≤ pension b

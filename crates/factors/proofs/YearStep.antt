@@ -1,6 +1,6 @@
 -- Facts about the year step, for any rate p, any divisor d and any amount. A, G, T, Z and C cite them.
 use Prim.Native.Nat.{ℕ, suc, ◌+◌, ◌*◌, ◌≤◌, ◌<◌}
-use native.Mathlib.Nat.{mul-pos, mul_assoc, mul_comm, mul_left_comm, mul-add, add-mul, mul-le-mul_left, mul_le_mul_right}
+use native.Mathlib.Nat.{mul-pos, mul_assoc, mul_comm, mul_left_comm, mul-add, add-mul, mul-le-mul_left, mul-le-mul_right}
 use native.Mathlib.Omega.{arith}
 use Rattle.rounding.specs.Nearest.{nearest}
 use Rattle.rounding.proofs.NearestLaws.{nearest_below, nearest_above, nearest_mono, nearest_shrinks}
@@ -12,7 +12,7 @@ ruleset sorted = (mul-add, add-mul, mul_assoc, mul_comm, mul_left_comm)
 
 -- it is monotone
 pub step_mono : (f g p d : ℕ) → 0 < d → f ≤ g → nearest (f * p) d ≤ nearest (g * p) d
-step_mono f g p d hd h = nearest_mono (f * p) (g * p) d hd (mul_le_mul_right p h)
+step_mono f g p d hd h = nearest_mono (f * p) (g * p) d hd (mul-le-mul_right p h)
 
 -- it never makes an amount grow
 pub step_shrinks : (f p d : ℕ) → 0 < d → p ≤ d → nearest (f * p) d ≤ f

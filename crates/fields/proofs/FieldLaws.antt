@@ -4,13 +4,13 @@ use mathlib.Core.Path.{◌≡◌, refl, sym, ap, ◌∙◌}
 use mathlib.Core.List.{List, [], ◌∷◌, ◌++◌, append_assoc, append-nil}
 use mathlib.Core.Bool.{Bool, true, false, cond, ◌&&◌}
 use mathlib.Core.Logic.{⊎_elim}
-use lib.ListN.{length, get_or, drop, drop_of_length_le, length-append, get_or-append}
+use lib.ListN.{length, get_or, drop, drop_of_length-le, length-append, get_or-append}
 use lib.Seq.{drop-cons, get_or-drop}
 use lib.Dec.{leb, ltb, eqb}
 use native.Mathlib.Omega.{arith}
 use native.Mathlib.Numerals.{add-one}
-use native.Mathlib.Nat.{add-zero, eq-or-lt_of_le, pow-succ', pow-le-pow_right, mul_assoc, mul_le_mul_right, lt_of_lt_of_le}
-use borrow.Author.Tests.{eq_eqb, ne_eqb, le-leb, lt-leb, leb-true, lt-ltb, le-ltb}
+use native.Mathlib.Nat.{add-zero, eq-or-lt_of_le, pow-succ', pow-le-pow_right, mul_assoc, mul-le-mul_right, lt_of_lt_of_le}
+use borrow.Author.Tests.{eq-eqb, ne_eqb, le-leb, lt-leb, leb-true, lt-ltb, le-ltb}
 use Rattle.fields.specs.declared.numbers.Field.TheVariants.{Is, NotField}
 use Rattle.fields.specs.Split.{seek_of, has_of, upto_of}
 use Rattle.fields.specs.Numbers.{Number, value, malformed, is_digit, all_digits, number, digits_of, whole_form, whole_of}
@@ -54,7 +54,7 @@ number_small (b ∷ s) n e =
     let top = digit_high b (and_true_left (is_digit b) (all_digits s) e) in
     let fits : n * 10 + (b - 48) + 1 ≤ (n + 1) * 10 = omega arith in
     rw (pow-succ' 10 (length s), ← mul_assoc (n + 1) 10 (10 ^ length s))
-    (lt_of_lt_of_le (number_small s (n * 10 + (b - 48)) (and_true_right (is_digit b) (all_digits s) e)) (mul_le_mul_right (10 ^ length s) fits))
+    (lt_of_lt_of_le (number_small s (n * 10 + (b - 48)) (and_true_right (is_digit b) (all_digits s) e)) (mul-le-mul_right (10 ^ length s) fits))
 
 pub digits_small : (t : List ℕ) {n : ℕ} → all_digits t ≡ true → length t ≤ 12 → number 0 t ≡ n → n < 1000000000000
 digits_small t all few writes =
@@ -102,7 +102,7 @@ module _ (form : List ℕ → Number) (b : ℕ) (no_digit : b < 48) {s : List �
   pub stop_end : length s ≤ j → NotField ≡ field_of form b i s
   unfolding field_of
   stop_end h =
-      let none : has_of b (drop j s) ≡ false = rw (drop_of_length_le s {i = j} h) (has_lacks b [] refl) in
+      let none : has_of b (drop j s) ≡ false = rw (drop_of_length-le s {i = j} h) (has_lacks b [] refl) in
       let same : has_of b (drop i s) ≡ has_of b (drop j s) = ap (has_of b) r.split ∙ rest.has in
       rw (same ∙ none)
 
@@ -166,7 +166,7 @@ module _ {s : List ℕ} {i j n : ℕ} (r : Run s i j n) where
       let t = r.text in
       let some : 1 ≤ length t = omega (arith, r.long) in
       let many : 1 < length t = omega (arith, r.long) in
-      simp (le-leb _ _ some, le-leb _ _ r.few, lt-ltb _ _ many, eq_eqb _ _ (first (omega arith) ∙ is))
+      simp (le-leb _ _ some, le-leb _ _ r.few, lt-ltb _ _ many, eq-eqb _ _ (first (omega arith) ∙ is))
 
   good : i < j → ltb 1 (length r.text) && eqb (get_or r.text 0 0) 48 ≡ false → whole_of r.text ≡ value n
   unfolding whole_of digits_of

@@ -3,21 +3,21 @@ use Prim.Native.Nat.{ℕ, suc, ◌+◌, ◌-◌, ◌≤◌, ◌<◌}
 use mathlib.Core.Path.{◌≡◌, refl, sym, ap, ◌∙◌}
 use mathlib.Core.List.{List, [], ◌∷◌, ◌++◌}
 use mathlib.Core.Bool.{Bool, true, false, cond, not, ◌&&◌}
-use lib.ListN.{length, get_or, take, drop, drop_of_length_le, length-drop}
+use lib.ListN.{length, get_or, take, drop, drop_of_length-le, length-drop}
 use lib.Seq.{drop-cons, take_all}
 use lib.Dec.{eqb, leb-suc-suc}
 use native.Mathlib.Omega.{arith}
 use native.Mathlib.Numerals.{add-one}
-use borrow.Author.Tests.{eq_eqb, ne_eqb, eqb-true, lt-ltb, le-ltb, not-true}
+use borrow.Author.Tests.{eq-eqb, ne_eqb, eqb-true, lt-ltb, le-ltb, not-true}
 use Rattle.fields.specs.declared.Line.TheVariants.{Wrong, Cut as Off}
 use Rattle.fields.specs.Split.{seek_of, has_of, upto_of, past_of, starts_of}
 
 module _ (b : ℕ) (s : List ℕ) (i : ℕ) where
   pub seek_end : length s ≤ i → seek_of b (drop i s) ≡ 0
-  seek_end h = rw drop_of_length_le
+  seek_end h = rw drop_of_length-le
 
   pub seek_here : i < length s → get_or s i 0 ≡ b → seek_of b (drop i s) ≡ 0
-  seek_here h e = rw (drop-cons s i 0) (simp (eq_eqb _ _ e))
+  seek_here h e = rw (drop-cons s i 0) (simp (eq-eqb _ _ e))
 
   pub seek_on : i < length s → (get_or s i 0 ≡ b → ⊥) → seek_of b (drop i s) ≡ suc (seek_of b (drop (i + 1) s))
   seek_on h e = rw (add-one, drop-cons s i 0) (simp (ne_eqb _ _ e))
@@ -25,16 +25,16 @@ module _ (b : ℕ) (s : List ℕ) (i : ℕ) where
 -- a key that s begins with
 module _ (key s : List ℕ) (i : ℕ) where
   pub starts_end : length key ≤ i → starts_of (drop i key) (drop i s) ≡ true
-  starts_end h = rw (drop_of_length_le key)
+  starts_end h = rw (drop_of_length-le key)
 
   pub starts_short : i < length key → length s ≤ i → starts_of (drop i key) (drop i s) ≡ false
-  starts_short h k = rw (drop-cons key i 0, drop_of_length_le s)
+  starts_short h k = rw (drop-cons key i 0, drop_of_length-le s)
 
   pub starts_off : i < length key → i < length s → (get_or s i 0 ≡ get_or key i 0 → ⊥) → starts_of (drop i key) (drop i s) ≡ false
   starts_off h k e = rw (drop-cons key i 0, drop-cons s i 0) (simp (ne_eqb _ _ e))
 
   pub starts_on : i < length key → i < length s → get_or s i 0 ≡ get_or key i 0 → starts_of (drop i key) (drop i s) ≡ starts_of (drop (i + 1) key) (drop (i + 1) s)
-  starts_on h k e = rw (add-one, drop-cons key i 0, drop-cons s i 0) (simp (eq_eqb _ _ e))
+  starts_on h k e = rw (add-one, drop-cons key i 0, drop-cons s i 0) (simp (eq-eqb _ _ e))
 
 -- ---- tests that were passed
 pub and_true_left : (a b : Bool) → a && b ≡ true → a ≡ true
@@ -91,7 +91,7 @@ pub record Here (b : ℕ) (u : List ℕ) : Type 0 where
 pub here : (b : ℕ) (u : List ℕ) → Here b u
 unfolding has_of upto_of past_of
 here b u =
-    let is = eq_eqb b b refl in
+    let is = eq-eqb b b refl in
     record { seek = simp is; has = simp is (lt-ltb 0 (suc (length u)) (omega arith)); upto = simp is; past = simp is }
 
 -- what lacks b, and what has it

@@ -3,7 +3,7 @@ use mathlib.Core.Path.{◌≡◌, refl, ap}
 use mathlib.Core.Bool.{Bool, true, false, not, cond}
 use Prim.Native.Nat.{ℕ, zero, suc, ◌+◌, ◌*◌, ◌-◌, ◌≤◌, ◌<◌}
 use native.Mathlib.Omega.{arith}
-use native.Mathlib.Nat.{mul_le_mul_right, le_of_mul_le_mul_right}
+use native.Mathlib.Nat.{mul-le-mul_right, le_of_mul-le-mul_right}
 use lib.Dec.{T as Yes, ltb, ltb→lt, nltb→le}
 use lib.IntN.{ℤ, pos, negsuc, neg_ℤ, nat_abs, sub_ℕ, ◌+ℤ◌, ◌*ℤ◌, ◌-ℤ◌}
 
@@ -91,11 +91,11 @@ unfolding pos_part neg_part
 ≤-size {z = negsuc a} m k d h = omega (arith, sums_times m d)
 
 pub near_times : {p q k : ℕ} (c : ℕ) → Near p q k → Near (p * c) (q * c) (k * c)
-near_times c h = omega (arith, mul_le_mul_right c h.below, mul_le_mul_right c h.above)
+near_times c h = omega (arith, mul-le-mul_right c h.below, mul-le-mul_right c h.above)
 
 pub near_cancel : {p q k c : ℕ} → 0 < c → Near (p * c) (q * c) (k * c) → Near p q k
 near_cancel {c} hc h =
     record {
-      below = le_of_mul_le_mul_right {k = c} (omega arith) hc;
-      above = le_of_mul_le_mul_right {k = c} (omega arith) hc;
+      below = le_of_mul-le-mul_right {k = c} (omega arith) hc;
+      above = le_of_mul-le-mul_right {k = c} (omega arith) hc;
     }

@@ -7,7 +7,7 @@ use lib.ListN.{length, get_or, take, drop, set, length-set}
 use lib.Seq.{take-suc-set, take_all, length-take-le, get_or-take}
 use native.Mathlib.Omega.{arith}
 use native.Mathlib.Numerals.{add-one}
-use borrow.Author.Tests.{eq_eqb, ne_eqb}
+use borrow.Author.Tests.{eq-eqb, ne_eqb}
 use Rattle.fields.specs.declared.Line.{Line}
 use Rattle.fields.specs.declared.Line.TheVariants.{Good, Wrong, Cut}
 use Rattle.fields.specs.Split.{upto_of, past_of}
@@ -101,5 +101,5 @@ terms_done {ranges} {s} {terms} {line} {at} {k} t all =
       good = record { size = t.size ∙ sym as_many; kept = λ on. rw (← whole) (t.kept on) };
       place = omega (arith, t.place, t.few, as_many);
       within = t.within;
-      way = t.way ∙ rw whole (simp (eq_eqb (length terms) (length term_forms) (t.size ∙ sym as_many)));
+      way = t.way ∙ rw whole (simp (eq-eqb (length terms) (length term_forms) (t.size ∙ sym as_many)));
     }

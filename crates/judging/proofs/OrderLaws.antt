@@ -5,7 +5,7 @@ use mathlib.Core.Logic.{◌↔◌}
 use Prim.Native.Nat.{ℕ, ◌≤◌, ◌<◌}
 use lib.ListN.{length}
 use lib.Dec.{leb}
-use borrow.Author.Tests.{eq_eqb, ne_eqb, leb-true, le-leb, lt-leb}
+use borrow.Author.Tests.{eq-eqb, ne_eqb, leb-true, le-leb, lt-leb}
 use Rattle.plan.specs.declared.Plan.{Plan}
 use Rattle.plan.specs.declared.Member.{Member}
 use Rattle.rules.specs.Refusals.{surplus_member}
@@ -31,12 +31,12 @@ module _ (c : Case) where
 
   pub count_refused : plan_of ≡ 0 → most_members < length c.members → surplus_member ≡ case_refusal c
   unfolding case_refusal
-  count_refused plan many = simp (eq_eqb plan_of 0 plan, lt-leb (length c.members) most_members many)
+  count_refused plan many = simp (eq-eqb plan_of 0 plan, lt-leb (length c.members) most_members many)
 
   pub members_judged : plan_of ≡ 0 → length c.members ≤ most_members → members_of ≡ case_refusal c
   unfolding case_refusal
   members_judged plan few =
-      simp (eq_eqb plan_of 0 plan, le-leb (length c.members) most_members few) (sym (first_alone members_of))
+      simp (eq-eqb plan_of 0 plan, le-leb (length c.members) most_members few) (sym (first_alone members_of))
 
   pub none_refused : (case_refusal c ≡ 0) ↔ ((plan_of ≡ 0) × (length c.members ≤ most_members) × (members_of ≡ 0))
   unfolding case_refusal

@@ -3,7 +3,7 @@ use Prim.Native.Nat.{ℕ, ◌+◌, ◌≤◌, ◌<◌}
 use mathlib.Core.Path.{◌≡◌, refl, sym, ap, ◌∙◌}
 use mathlib.Core.List.{List, [], ◌∷◌, ◌++◌, map}
 use mathlib.Core.Bool.{cond}
-use lib.ListN.{length, get_or, take, drop, replicate, length-map, drop_of_length_le, get_or-map}
+use lib.ListN.{length, get_or, take, drop, replicate, length-map, drop_of_length-le, get_or-map}
 use lib.Dec.{eqb}
 use lib.Seq.{drop-cons, take-suc}
 use native.Mathlib.Numerals.{add-one}
@@ -57,7 +57,7 @@ module _ {p : Plan} {rows list : List (List ℕ)} {cells : List ℕ} {sums : Lis
   unfolding members_refusal
   passed_all done =
       let none : length (members_in list) ≤ j = rw length-map done in
-      sym (i.way ∙ rw (drop_of_length_le (members_in list) none))
+      sym (i.way ∙ rw (drop_of_length-le (members_in list) none))
 
   -- the member at place j, and what is refused of it
   module _ (more : j < length list) {m : Member} (is : m ≡ member_from (get_or list j [])) {x : ℕ} (rule : x ≡ line_refusal p rows before (held sums m.person) m) where

@@ -8,7 +8,7 @@ use lib.ListN.{length, get_or, drop, set, replicate, length-append, length-drop}
 use lib.Dec.{leb, eqb, eqb-suc-zero}
 use native.Mathlib.Omega.{arith}
 use native.Mathlib.Nat.{eq-or-lt_of_le}
-use borrow.Author.Tests.{eq_eqb, ne_eqb, le-leb, lt-leb, eqb-true, eqb-false}
+use borrow.Author.Tests.{eq-eqb, ne_eqb, le-leb, lt-leb, eqb-true, eqb-false}
 use Rattle.fields.specs.Split.{has_of, upto_of, past_of}
 use Rattle.plan.specs.declared.Plan.{Plan}
 use Rattle.plan.specs.declared.Member.{Member}
@@ -41,7 +41,7 @@ use Rattle.members.proofs.ArrayLaws.{array_next}
 -- ---- the room that is left
 full_same : (count : ℕ) → count ≤ 1000 → eqb count 1000 ≡ leb most_members count
 full_same count few = ⊎_elim
-    (λ (e : count ≡ 1000). eq_eqb count 1000 e ∙ sym (le-leb most_members count (omega arith)))
+    (λ (e : count ≡ 1000). eq-eqb count 1000 e ∙ sym (le-leb most_members count (omega arith)))
     (λ (l : count < 1000). ne_eqb count 1000 (λ e. omega arith) ∙ sym (lt-leb most_members count l))
     (eq-or-lt_of_le few)
 
@@ -124,7 +124,7 @@ module _ {ranges : Bool} {p : Plan} {rows : List (List ℕ)} {first : ℕ} {s : 
       counted same =
           let g = tail_end (eqb count 1000) (drop at s) read.0 is in
           i.way h fits
-          ∙ line_passed ranges (first + count) (people h i.members) (drop at s) g.has (tail ∙ rw (eq_eqb (get_or values 0 0) count same)) (sym (settled_none ranges)) refl (next_rest s at e g)
+          ∙ line_passed ranges (first + count) (people h i.members) (drop at s) g.has (tail ∙ rw (eq-eqb (get_or values 0 0) count same)) (sym (settled_none ranges)) refl (next_rest s at e g)
           ∙ after_end ranges (first + count + 1) h i.members (drop (at + (e + 1)) s) ∙ rw (length-drop (at + (e + 1)) s)
 
     pub members_end : {c : Count} (after : ℕ) → after ≡ length s - (at + (e + 1)) → c ≡ end_count (get_or values 0 0) count (first + count) after → (h : Head) → SameHead ranges p rows h → MembersAre ranges h first s c array
@@ -144,7 +144,7 @@ module _ {ranges : Bool} {p : Plan} {rows : List (List ℕ)} {first : ℕ} {s : 
     listed_place = next_within s at e (tail_listed (eqb count 1000) (drop at s) read.0 is)
 
     pub room : count < 1000
-    room = ⊎_elim (λ (full : count ≡ 1000). full_none (upto_of 10 (drop at s)) (member_from values) (rw (eq_eqb count 1000 full) at (read.1.member e is).0)) (λ l. l) (eq-or-lt_of_le i.few)
+    room = ⊎_elim (λ (full : count ≡ 1000). full_none (upto_of 10 (drop at s)) (member_from values) (rw (eq-eqb count 1000 full) at (read.1.member e is).0)) (λ l. l) (eq-or-lt_of_le i.few)
 
     module _ {m : Member} {x : ℕ} (made : m ≡ member_from values) (rule : x ≡ settled ranges (line_refusal p rows before (held-for sums m.person) m)) where
       good : (h : Head) → SameHead ranges p rows h → verdict_of (people h i.members) (upto_of 10 (drop at s)) (upto_of 10 (past_of 10 (drop at s))) ≡ right (refusal_after h i.members m) (people h (i.members ++ m ∷ []))

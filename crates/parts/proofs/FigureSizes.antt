@@ -3,7 +3,7 @@ use mathlib.Core.Bool.{Bool, true, false, cond}
 use mathlib.Core.List.{List}
 use mathlib.Core.Path.{◌≡◌, refl, sym}
 use Prim.Native.Nat.{ℕ, zero, suc, ◌+◌, ◌-◌, ◌*◌, ◌≤◌, ◌<◌}
-use native.Mathlib.Nat.{le_trans, mul_le_mul, mul-le-mul_left, mul_le_mul_right, le_of_mul_le_mul_right}
+use native.Mathlib.Nat.{le_trans, mul-le-mul, mul-le-mul_left, mul-le-mul_right, le_of_mul-le-mul_right}
 use native.Mathlib.Omega.{arith}
 use lib.Dec.{ltb}
 use borrow.Author.Tests.{ltb-true}
@@ -34,8 +34,8 @@ year_covers : (g z w pay p d : ℕ) → 0 < d → w ≤ 100000 → 1000 ≤ pay 
 year_covers g z w pay p d some top least covers =
     let q = nearest (g * p) d in
     let t = nearest (z * p) d in
-    let below = mul_le_mul_right w (nearest_below (g * p) d) in
-    let less : 2 * (q * w) ≤ 142 * t + 71 + w = le_of_mul_le_mul_right {m = 2 * (q * w)} {n = 142 * t + 71 + w} {k = d} (omega (arith, nearest_above (z * p) d some, mul_le_mul_right p covers)) some in
+    let below = mul-le-mul_right w (nearest_below (g * p) d) in
+    let less : 2 * (q * w) ≤ 142 * t + 71 + w = le_of_mul-le-mul_right {m = 2 * (q * w)} {n = 142 * t + 71 + w} {k = d} (omega (arith, nearest_above (z * p) d some, mul-le-mul_right p covers)) some in
     omega arith
 
 module _ (b : Basis) (y x : ℕ) (to : x < b.r) (top : b.W x ≤ 100000) (weighty : (k : ℕ) → y ≤ k → k < b.r → 1000 ≤ b.W k) (small : G b x ≤ 71 * S) where
@@ -43,7 +43,7 @@ module _ (b : Basis) (y x : ℕ) (to : x < b.r) (top : b.W x ≤ 100000) (weight
   unfolding step
   covers zero k from at =
       let here : k ≡ x = omega arith in
-      rw here (omega (arith, mul_le_mul_right (b.W x) small, Z_least b x b.r to))
+      rw here (omega (arith, mul-le-mul_right (b.W x) small, Z_least b x b.r to))
   covers (suc n) k from at =
       rw (G_below b k (omega arith), Z_below b k b.r (omega arith))
       (year_covers (G b (k + 1)) (Z b (k + 1) b.r) (b.W x) (b.W k) (b.P k) (100 * (10000 + b.i)) (omega arith) top (weighty k from (omega arith)) (covers n (k + 1) (omega arith) (omega arith)))
@@ -51,7 +51,7 @@ module _ (b : Basis) (y x : ℕ) (to : x < b.r) (top : b.W x ≤ 100000) (weight
 percent_small : (most g w z : ℕ) → g * w ≤ 71 * z → w ≤ 100000 → 1000 * S ≤ z → nearest (nearest (most * g) S * w * S) z ≤ most * 71 + 50
 percent_small most g w z covers top least =
     let value = nearest (most * g) S in
-    let below = mul_le_mul_right w (nearest_below (most * g) S) in
+    let below = mul-le-mul_right w (nearest_below (most * g) S) in
     let whole : value * w * S ≤ (most * 71 + 50) * z = omega (arith, mul-le-mul_left most covers) in
     omega (arith, nearest_mono (value * w * S) ((most * 71 + 50) * z) z (omega arith) whole, nearest_exact (most * 71 + 50) z (omega arith))
 
@@ -107,7 +107,7 @@ module _ (p : Plan) (rows : List (List ℕ)) (m : Member) (accepted : MemberRang
   cost_small CD k from to =
       let top = B p rows m r in
       let some = divided p rows m accepted CD in
-      omega (arith, nearest_mono (top * G b y) (top * 71 * S) (T b y r) some (omega (arith, mul_le_mul {n₁ = top} {n₂ = top} (omega arith) (G_small p rows m accepted y))), nearest_shrinks (top * 71) S (T b y r) some (T_least b y r enters), accepted.capped)
+      omega (arith, nearest_mono (top * G b y) (top * 71 * S) (T b y r) some (omega (arith, mul-le-mul {n₁ = top} {n₂ = top} (omega arith) (G_small p rows m accepted y))), nearest_shrinks (top * 71) S (T b y r) some (T_least b y r enters), accepted.capped)
   cost_small CP k from to =
       let heavy = (f.table k (omega (arith, accepted.in_range.grown)) (omega (arith, f.head.retire.1))).weight in
       let weighty = (sound p rows m accepted).weighty in

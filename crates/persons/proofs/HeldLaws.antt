@@ -7,7 +7,7 @@ use lib.ListN.{length, get_or, set, replicate}
 use lib.Dec.{eqb}
 use native.Mathlib.Omega.{arith}
 use native.Mathlib.Nat.{add-zero, zero-add}
-use borrow.Author.Tests.{eq_eqb, ne_eqb}
+use borrow.Author.Tests.{eq-eqb, ne_eqb}
 use Rattle.persons.specs.Held.{holds_for, held, person_at, sum_at}
 
 -- ---- a place is written
@@ -28,7 +28,7 @@ pub held_one : (places : List (List ℕ)) (i person : ℕ) → i < length places
 unfolding held
 held_one [] i person h is only = absurd (omega arith)
 held_one (place ∷ places) zero person h is only =
-    rw (eq_eqb (get_or place 0 0) person is, held_none places person (λ j low at. let z = only (suc j) (omega arith) at in omega arith)) (add-zero (get_or place 1 0))
+    rw (eq-eqb (get_or place 0 0) person is, held_none places person (λ j low at. let z = only (suc j) (omega arith) at in omega arith)) (add-zero (get_or place 1 0))
 held_one (place ∷ places) (suc i) person h is only =
     rw (ne_eqb (get_or place 0 0) person (λ at. let z = only 0 (omega arith) at in omega arith)) (zero-add _ ∙ held_one places i person (omega arith) is (λ j low at. let z = only (suc j) (omega arith) at in omega arith))
 

@@ -7,7 +7,7 @@ use mathlib.Core.Logic.{⊎_elim}
 use lib.Dec.{eqb}
 use native.Mathlib.Omega.{arith}
 use native.Mathlib.Nat.{mod-lt}
-use borrow.Author.Tests.{eq_eqb, ne_eqb, eqb-true}
+use borrow.Author.Tests.{eq-eqb, ne_eqb, eqb-true}
 use Rattle.persons.specs.Held.{person_at}
 use Rattle.persons.specs.Search.{line_in, branch, stops_at, Leads, Found, Searchable}
 
@@ -18,13 +18,13 @@ module _ (cells : List ℕ) (sums : List (List ℕ)) (person : ℕ) where
   -- ---- where it stops, the cell is empty or holds the person
   pub stops_empty : (cell : ℕ) → line_in cells cell ≡ 0 → stops_at cells sums person cell ≡ true
   unfolding stops_at
-  stops_empty cell e = rw (eq_eqb (line_in cells cell) 0 e)
+  stops_empty cell e = rw (eq-eqb (line_in cells cell) 0 e)
 
   pub stops_there : (cell j : ℕ) → line_in cells cell ≡ j + 1 → person_at sums j ≡ person → stops_at cells sums person cell ≡ true
   unfolding stops_at
   stops_there cell j e is =
       let place : line_in cells cell - 1 ≡ j = omega (arith, e) in
-      rw (ne_eqb (line_in cells cell) 0 (λ none. omega (arith, e)), eq_eqb (person_at sums (line_in cells cell - 1)) person (ap (person_at sums) place ∙ is))
+      rw (ne_eqb (line_in cells cell) 0 (λ none. omega (arith, e)), eq-eqb (person_at sums (line_in cells cell - 1)) person (ap (person_at sums) place ∙ is))
 
   -- the test of a cell that isn't empty
   pub stops_by : (cell : ℕ) {line : ℕ} → line ≡ line_in cells cell → (line ≡ 0 → ⊥) → eqb (person_at sums (line - 1)) person ≡ stops_at cells sums person cell
@@ -41,7 +41,7 @@ module _ (cells : List ℕ) (sums : List (List ℕ)) (person : ℕ) where
 
   pub not_there : (cell : ℕ) → stops_at cells sums person cell ≡ false → person_at sums (line_in cells cell - 1) ≡ person → ⊥
   unfolding stops_at
-  not_there cell on e = apart (rw (eq_eqb (person_at sums (line_in cells cell - 1)) person e) (either (eqb (line_in cells cell) 0))) on
+  not_there cell on e = apart (rw (eq-eqb (person_at sums (line_in cells cell - 1)) person e) (either (eqb (line_in cells cell) 0))) on
     where
       either : (b : Bool) → (b || true) ≡ true
       either true = refl

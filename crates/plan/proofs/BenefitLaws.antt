@@ -5,7 +5,7 @@ use mathlib.Core.List.{List}
 use Prim.Native.Nat.{ℕ, zero, suc, ◌+◌, ◌-◌, ◌*◌, ◌≤◌, ◌<◌, min}
 use native.Mathlib.Nat.{mul-one, mul-pos, eq-or-lt_of_le}
 use native.Mathlib.Omega.{arith}
-use borrow.Author.Tests.{le-leb, lt-leb, eq_eqb, ne_eqb}
+use borrow.Author.Tests.{le-leb, lt-leb, eq-eqb, ne_eqb}
 use Rattle.rounding.specs.Nearest.{nearest}
 use Rattle.rounding.proofs.NearestLaws.{nearest_exact, nearest_cross}
 use Rattle.fractions.specs.Ratio.{Ratio, ◌over◌, whole, ◌⊕◌, ◌⊗◌, ◌⊘◌, inverse, ◌≈◌}
@@ -22,12 +22,12 @@ use Rattle.plan.specs.Benefit.{formula_of, pay, pays, exact_benefit, B}
 -- ---- which code a formula has
 pub not_flat : (code : ℕ) {f : Formula} → formula_of code ≡ f → (Flat ≡ f → ⊥) → code ≡ 1 → ⊥
 unfolding formula_of
-not_flat code e other one = other (sym (simp (eq_eqb code 1 one)) ∙ e)
+not_flat code e other one = other (sym (simp (eq-eqb code 1 one)) ∙ e)
 
 not_career : (code : ℕ) → formula_of code ≡ Final → code ≡ 2 → ⊥
 unfolding formula_of
 not_career code e two =
-    let z : Career ≡ Final = sym (simp (ne_eqb code 1 (λ one. omega arith), eq_eqb code 2 two)) ∙ e in
+    let z : Career ≡ Final = sym (simp (ne_eqb code 1 (λ one. omega arith), eq-eqb code 2 two)) ∙ e in
     let never : ◌≡◌ {A = ℕ} 0 1 = cc in
     omega arith
 

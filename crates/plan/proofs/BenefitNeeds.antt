@@ -5,7 +5,7 @@ use mathlib.Core.Bool.{Bool, true, false}
 use borrow.Author.Tests.{leb-true, leb-false}
 use lib.Dec.{leb}
 use Prim.Native.Nat.{ℕ, ◌-◌, ◌*◌, ◌≤◌, ◌<◌, min}
-use native.Mathlib.Nat.{le_refl, mul_le_mul, min-le_left, min-le_right, min_eq_left, min-eq_right, le_of_lt}
+use native.Mathlib.Nat.{le_refl, mul-le-mul, min-le_left, min-le_right, min-eq_left, min-eq_right, le_of_lt}
 use native.Mathlib.Omega.{arith}
 use Rattle.rates.specs.Table.{weight, Table}
 use Rattle.plan.specs.declared.Plan.{Plan}
@@ -19,10 +19,10 @@ use Rattle.plan.proofs.WeightLaws.{summed_most}
 
 -- ---- products that fit a word
 pub career_fits : (unit salary weights : ℕ) → unit ≤ 500 → salary ≤ 100000000 → weights ≤ 10600000 → unit * (salary * weights) ≤ 500 * (100000000 * 10600000)
-career_fits unit salary weights hu hs hw = mul_le_mul hu (mul_le_mul hs hw)
+career_fits unit salary weights hu hs hw = mul-le-mul hu (mul-le-mul hs hw)
 
 pub final_fits : (unit years salary weights : ℕ) → unit ≤ 500 → years ≤ 60 → salary ≤ 100000000 → weights ≤ 1000000 → unit * years * (salary * weights) ≤ 500 * 60 * (100000000 * 1000000)
-final_fits unit years salary weights hu hy hs hw = mul_le_mul (mul_le_mul hu hy) (mul_le_mul hs hw)
+final_fits unit years salary weights hu hy hs hw = mul-le-mul (mul-le-mul hu hy) (mul-le-mul hs hw)
 
 -- ---- the last n ages, or all if fewer
 pub record LastAges (average years n : ℕ) : Type 0 where
@@ -30,7 +30,7 @@ pub record LastAges (average years n : ℕ) : Type 0 where
   pub most : n ≤ 10
 
 least_some : {a b : ℕ} (t : Bool) → leb a b ≡ t → 0 < a → 0 < b → 0 < min a b
-least_some {a} {b} true e ha hb = rw (min_eq_left (leb-true a b e)) ha
+least_some {a} {b} true e ha hb = rw (min-eq_left (leb-true a b e)) ha
 least_some {a} {b} false e ha hb = rw (min-eq_right (le_of_lt (leb-false a b e))) hb
 
 pub last_ages : (average years : ℕ) → 1 ≤ average → average ≤ 10 → 0 < years → LastAges average years (min average years)

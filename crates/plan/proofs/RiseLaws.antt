@@ -4,7 +4,7 @@ use mathlib.Core.Logic.{⊎_elim}
 use mathlib.Core.List.{List}
 use mathlib.Core.Bool.{Bool, true, false}
 use Prim.Native.Nat.{ℕ, ◌+◌, ◌-◌, ◌*◌, ◌≤◌, ◌<◌, min}
-use native.Mathlib.Nat.{mul_le_mul, mul-le-mul_left, mul-pos, min_eq_left, min-eq_right, eq-or-lt_of_le}
+use native.Mathlib.Nat.{mul-le-mul, mul-le-mul_left, mul-pos, min-eq_left, min-eq_right, eq-or-lt_of_le}
 use native.Mathlib.Omega.{arith}
 use borrow.Author.Tests.{leb-true, leb-false}
 use lib.Dec.{leb}
@@ -66,7 +66,7 @@ module _ (p : Plan) (rows : List (List ℕ)) (m : Member) (head : HeadRanges p) 
 
     late : (k : ℕ) → entry < k → average ≤ k - entry → B p rows m k ≡ of_last_pay k
     late k after past =
-        let n_is : min average (k - entry) ≡ average = min_eq_left past in
+        let n_is : min average (k - entry) ≡ average = min-eq_left past in
         rw n_is at (final_benefit p rows m now_some k after final (rw n_is averaged))
 
     -- a longer service, times ages that moved up by one
@@ -74,7 +74,7 @@ module _ (p : Plan) (rows : List (List ℕ)) (m : Member) (head : HeadRanges p) 
     last_pay_rises k past before =
         let up : k + 1 - average ≡ k - average + 1 = omega arith in
         let ages : summed W (k - average) average ≤ summed W (k + 1 - average) average = rw up (summed_climbs W (k - average) average (λ j from to. weights.climbs j (omega (arith, placed.grown)) (omega (arith, head.retire.1)))) in
-        nearest_mono _ _ (10000 * (average * W age)) (omega (arith, mul-pos averaged now_some)) (mul_le_mul (mul-le-mul_left unit (omega arith)) (mul-le-mul_left salary ages))
+        nearest_mono _ _ (10000 * (average * W age)) (omega (arith, mul-pos averaged now_some)) (mul-le-mul (mul-le-mul_left unit (omega arith)) (mul-le-mul_left salary ages))
 
     final_rises : (k : ℕ) → entry < k → k < retire → (t : Bool) → leb average (k - entry) ≡ t → B p rows m k ≤ B p rows m (k + 1)
     final_rises k after before true e =

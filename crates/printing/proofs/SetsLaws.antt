@@ -4,7 +4,7 @@ use mathlib.Core.List.{List, [], ◌∷◌, ◌++◌, append-nil}
 use Prim.Native.Nat.{ℕ, zero, suc, ◌+◌, ◌-◌, ◌≤◌, ◌<◌}
 use native.Mathlib.Omega.{arith}
 use native.Mathlib.Numerals.{add-one}
-use lib.ListN.{length, get_or, take, drop, set, length-drop, length-append, drop_of_length_le, take-append-drop}
+use lib.ListN.{length, get_or, take, drop, set, length-drop, length-append, drop_of_length-le, take-append-drop}
 use lib.Seq.{take_all, take-suc, drop-set-add, take-set-le, sets, length-sets}
 use borrow.Rule.Slice.PartMut.{put_mid}
 use Rattle.printing.specs.Puts.{Puts}
@@ -50,6 +50,6 @@ lent l a {text} p =
     let here : a + 0 ≡ a = omega arith in
     let part = in_part l a 0 text in
     record {
-      holds = rw (p.holds, take_all (length l - a) (drop a l) all, drop_of_length_le (drop a l) all, append-nil) (rw here at part);
+      holds = rw (p.holds, take_all (length l - a) (drop a l) all, drop_of_length-le (drop a l) all, append-nil) (rw here at part);
       ends = omega (arith, p.ends);
     }

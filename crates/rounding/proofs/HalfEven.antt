@@ -2,7 +2,7 @@
 use mathlib.Core.Path.{◌≡◌, refl, sym, ap, ◌∙◌}
 use mathlib.Core.Bool.{Bool, true, false}
 use Prim.Native.Nat.{ℕ, ◌+◌, ◌*◌, ◌/◌, ◌%◌, ◌≤◌, ◌<◌}
-use native.Mathlib.Nat.{mul_le_mul_right, le_of_mul_le_mul_right}
+use native.Mathlib.Nat.{mul-le-mul_right, le_of_mul-le-mul_right}
 use native.Mathlib.Omega.{arith}
 use borrow.Author.Tests.{ltb-true, ltb-false, leb-true, leb-false, lt-ltb, le-ltb}
 use lib.Dec.{leb, ltb}
@@ -53,8 +53,8 @@ by_tests false true q r d e f h =
 by_tests false false q r d e f h =
     let half : r + r ≡ d = omega (arith, ltb-false (2 * r) d e, ltb-false d (2 * r) f) in
     let is = even_of_lem q in
-    let low = mul_le_mul_right d is.low in
-    let high = mul_le_mul_right d is.high in
+    let low = mul-le-mul_right d is.low in
+    let high = mul-le-mul_right d is.high in
     rw (just_half q r d h half) (omega arith)
 
 pub rounded : (n d : ℕ) → 0 < d → Rounded n d (nearest n d)
@@ -66,8 +66,8 @@ rounded n d h =
 in_order : (t : Bool) (m n d a b : ℕ) → leb a b ≡ t → 0 < d → m ≤ n → Rounded m d a → Rounded n d b → a ≤ b
 in_order true m n d a b e h le ra rb = leb-true a b e
 in_order false m n d a b e h le ra rb =
-    let over : (b + 1) * d ≤ a * d = mul_le_mul_right d (omega (arith, leb-false a b e)) in
-    let next : a ≤ b + 1 = le_of_mul_le_mul_right {m = a} {n = b + 1} {k = d} (omega (arith, ra.above, rb.below)) h in
+    let over : (b + 1) * d ≤ a * d = mul-le-mul_right d (omega (arith, leb-false a b e)) in
+    let next : a ≤ b + 1 = le_of_mul-le-mul_right {m = a} {n = b + 1} {k = d} (omega (arith, ra.above, rb.below)) h in
     absurd (omega (arith, leb-false a b e, ra.half_above (omega (arith, ra.above, rb.below)), rb.half_below (omega (arith, ra.above, rb.below))))
 
 pub rounded_mono : (m n d a b : ℕ) → 0 < d → m ≤ n → Rounded m d a → Rounded n d b → a ≤ b

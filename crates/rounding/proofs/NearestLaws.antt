@@ -2,7 +2,7 @@
 -- They don't say where a half goes: up, down or to the even neighbour, they hold alike.
 use mathlib.Core.Path.{◌≡◌, refl, sym, ap}
 use Prim.Native.Nat.{ℕ, zero, suc, ◌+◌, ◌*◌, ◌≤◌, ◌<◌}
-use native.Mathlib.Nat.{mul-one, mul-le-mul_left, mul_le_mul_right, le_of_mul_le_mul_right, eq_of_mul-eq-mul_right}
+use native.Mathlib.Nat.{mul-one, mul-le-mul_left, mul-le-mul_right, le_of_mul-le-mul_right, eq_of_mul-eq-mul_right}
 use native.Mathlib.Omega.{arith}
 use lib.IntN.{pos, neg_ℤ}
 use Rattle.rounding.specs.Nearest.{nearest, nearest_ℤ}
@@ -45,8 +45,8 @@ nearest_cross n d m e hd he cross =
     let q : ℕ = nearest m e in
     let is : Rounded m e q = rounded m e he in
     sym (rounded_only n d q hd (record {
-      above = le_of_mul_le_mul_right {m = 2 * (q * d)} {n = 2 * n + d} {k = e} (omega (arith, mul_le_mul_right d is.above)) he;
-      below = le_of_mul_le_mul_right {m = 2 * n} {n = 2 * (q * d) + d} {k = e} (omega (arith, mul_le_mul_right d is.below)) he;
+      above = le_of_mul-le-mul_right {m = 2 * (q * d)} {n = 2 * n + d} {k = e} (omega (arith, mul-le-mul_right d is.above)) he;
+      below = le_of_mul-le-mul_right {m = 2 * n} {n = 2 * (q * d) + d} {k = e} (omega (arith, mul-le-mul_right d is.below)) he;
       half_above = λ half. is.half_above (eq_of_mul-eq-mul_right d hd (2 * (q * e)) (2 * m + e) (omega (arith, ap (λ (x : ℕ). x * e) half)));
       half_below = λ half. is.half_below (eq_of_mul-eq-mul_right d hd (2 * m) (2 * (q * e) + e) (omega (arith, ap (λ (x : ℕ). x * e) half)));
     }))

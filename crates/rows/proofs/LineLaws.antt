@@ -6,7 +6,7 @@ use mathlib.Core.Bool.{cond}
 use lib.ListN.{length, get_or, take}
 use lib.Dec.{eqb}
 use native.Mathlib.Omega.{arith}
-use borrow.Author.Tests.{eq_eqb, ne_eqb}
+use borrow.Author.Tests.{eq-eqb, ne_eqb}
 use Rattle.fields.specs.declared.Line.{Line}
 use Rattle.fields.specs.declared.Line.TheVariants.{Good, Wrong, Cut}
 use Rattle.fields.specs.Text.{bytes}
@@ -35,7 +35,7 @@ module _ (age : ℕ) (s values : List ℕ) {r : Line} (read : Answers (keyed_of 
 
   pub row_good : {e : ℕ} → r ≡ Good e → get_or values 0 0 ≡ age → Answers (row_form age) s (Good e) (RowHeld (row_form age (upto_of 10 s)) values)
   row_good {e} is due =
-      let all : row_form age (upto_of 10 s) ≡ found (four_of values) = row is ∙ rw (eq_eqb _ _ due) in
+      let all : row_form age (upto_of 10 s) ≡ found (four_of values) = row is ∙ rw (eq-eqb _ _ due) in
       answers_good (row_form age) s RowKnown (is_good (keyed_of (bytes "row=") whole_of 4) s read.0 is) all (record { is = all; size = (read.1 e is).size })
 
   pub row_other : {e : ℕ} → r ≡ Good e → (get_or values 0 0 ≡ age → ⊥) → Answers (row_form age) s Wrong (RowHeld (row_form age (upto_of 10 s)) values)

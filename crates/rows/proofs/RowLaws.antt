@@ -8,8 +8,8 @@ use lib.Seq.{take-suc-set, take_all, get_or_at}
 use lib.Dec.{leb}
 use native.Mathlib.Omega.{arith}
 use native.Mathlib.Numerals.{add-one}
-use native.Mathlib.Nat.{min_eq_left}
-use borrow.Author.Tests.{eq_eqb, ne_eqb, leb-true}
+use native.Mathlib.Nat.{min-eq_left}
+use borrow.Author.Tests.{eq-eqb, ne_eqb, leb-true}
 use Rattle.fields.specs.declared.Line.{Line}
 use Rattle.fields.specs.declared.Line.TheVariants.{Good, Wrong, Cut}
 use Rattle.fields.specs.Split.{upto_of, past_of}
@@ -46,7 +46,7 @@ row_narrow age before values e =
     let hw : r.withdrawal ≤ 1000000 = leb-true _ _ (and_true_left (leb r.withdrawal 1000000) (leb r.disability 1000000) others) in
     let hi : r.disability ≤ 1000000 = leb-true _ _ (and_true_right (leb r.withdrawal 1000000) (leb r.disability 1000000) others) in
     let hz : r.weight ≤ 100000 = leb-true _ _ (and_true_right (leb 1000 r.weight) (leb r.weight 100000) scale) in
-    rw (min_eq_left {n = r.death} {m = 4294967295} (omega arith), min_eq_left {n = r.withdrawal} {m = 4294967295} (omega arith), min_eq_left {n = r.disability} {m = 4294967295} (omega arith), min_eq_left {n = r.weight} {m = 4294967295} (omega arith))
+    rw (min-eq_left {n = r.death} {m = 4294967295} (omega arith), min-eq_left {n = r.withdrawal} {m = 4294967295} (omega arith), min-eq_left {n = r.disability} {m = 4294967295} (omega arith), min-eq_left {n = r.weight} {m = 4294967295} (omega arith))
 
 weight_next : (rows : List (List ℕ)) (r : List ℕ) → due_age rows ≤ 120 → weight_before (rows ++ r ∷ []) (due_age rows + 1) ≡ get_or r 3 0
 weight_next rows r old =
@@ -137,5 +137,5 @@ rows_done {array = array} {k = k} i all =
       exact = λ on. sym (take_all k array (omega (arith, i.size))) ∙ i.held ∙ i.exact on;
       place = omega (arith, i.place, i.few);
       within = i.within;
-      way = λ t l. i.way t l ∙ simp (eq_eqb (length i.rows) ages full);
+      way = λ t l. i.way t l ∙ simp (eq-eqb (length i.rows) ages full);
     }

@@ -6,7 +6,7 @@ use mathlib.Core.List.{List, [], ◌∷◌}
 use Prim.Native.Nat.{ℕ, zero, suc, ◌+◌, ◌≤◌, ◌<◌}
 use native.Mathlib.Nat.{eq-or-lt_of_le}
 use native.Mathlib.Omega.{arith}
-use borrow.Author.Tests.{leb-true, ltb-true, le-leb, eqb-true, eq_eqb, ne_eqb}
+use borrow.Author.Tests.{leb-true, ltb-true, le-leb, eqb-true, eq-eqb, ne_eqb}
 use lib.Dec.{leb, ltb, eqb}
 use Rattle.rates.specs.Rates.{death, withdrawal, disability}
 use Rattle.rates.specs.Table.{row, weight, Sound}
@@ -41,7 +41,7 @@ head_facts p e =
       formula = between_true 1 3 p.formula (kept (between 1 3 p.formula) 9 k.1.1.1.0);
       flat_unit = unit_most (eqb p.formula 1) p.unit unit;
       pay_unit = λ other. subst (λ (t : Bool). p.unit ≤ cond t 100000 500) (ne_eqb p.formula 1 other) unit;
-      average = λ final. between_true 1 10 p.average (subst (λ (t : Bool). cond t (between 1 10 p.average) (eqb p.average 0) ≡ true) (eq_eqb p.formula 3 final) average);
+      average = λ final. between_true 1 10 p.average (subst (λ (t : Bool). cond t (between 1 10 p.average) (eqb p.average 0) ≡ true) (eq-eqb p.formula 3 final) average);
       method = between_true 1 5 p.method (kept (between 1 5 p.method) 9 k.1.1.1.1.1.1.0);
       assets = leb-true _ _ (kept (leb p.assets 99999999999999) 10 k.1.1.1.1.1.1.1.0);
       years = between_true 1 40 p.years (kept (between 1 40 p.years) 10 k.1.1.1.1.1.1.1.1.0);
@@ -107,7 +107,7 @@ module _ (p : Plan) (rows : List (List ℕ)) (before : ℕ) (m : Member) where
 
   pub fields_kept : first_among (field_rules p before m) ≡ 0 → member_refusal p rows before m ≡ first_among (benefit_rules p rows m)
   unfolding member_refusal
-  fields_kept h = refusal_of_both (field_rules p before m) (benefit_rules p rows m) ∙ simp (eq_eqb (first_among (field_rules p before m)) 0 h)
+  fields_kept h = refusal_of_both (field_rules p before m) (benefit_rules p rows m) ∙ simp (eq-eqb (first_among (field_rules p before m)) 0 h)
 
 pub range_facts : (p : Plan) (before : ℕ) (m : Member) → first_among (field_rules p before m) ≡ 0 → InRange p m
 unfolding field_rules

@@ -5,7 +5,7 @@ use mathlib.Core.Logic.{◌⊎◌, inl, inr}
 use mathlib.Core.List.{List, [], ◌∷◌, ◌++◌}
 use Prim.Native.Nat.{ℕ, zero, suc, ◌≤◌}
 use native.Mathlib.Omega.{arith}
-use borrow.Author.Tests.{leb-true, eq_eqb, ne_eqb}
+use borrow.Author.Tests.{leb-true, eq-eqb, ne_eqb}
 use lib.Dec.{leb, eqb}
 use Rattle.rules.specs.Rules.{unless, first_among, between}
 
@@ -19,7 +19,7 @@ first_refuses a later h = simp (ne_eqb a 0 h)
 
 -- a rule that is kept is passed over
 pub first_passes : (a : ℕ) (later : List ℕ) → a ≡ 0 → first_among (a ∷ later) ≡ first_among later
-first_passes a later h = simp (eq_eqb a 0 h)
+first_passes a later h = simp (eq-eqb a 0 h)
 
 -- a lone rule
 pub first_alone : (a : ℕ) → first_among (a ∷ []) ≡ a

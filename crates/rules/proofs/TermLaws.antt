@@ -5,7 +5,7 @@ use mathlib.Core.List.{List, [], ◌∷◌, ◌++◌, append_assoc, append-nil}
 use Prim.Native.Nat.{ℕ, zero, suc, ◌+◌, ◌≤◌, ◌<◌}
 use native.Mathlib.Nat.{eq-or-lt_of_le}
 use native.Mathlib.Omega.{arith}
-use lib.ListN.{length, get_or, take, drop, drop_of_length_le, get_or-eq_default}
+use lib.ListN.{length, get_or, take, drop, drop_of_length-le, get_or-eq_default}
 use lib.Seq.{drop-cons, get_or-take}
 use Rattle.rules.specs.Rules.{first_among}
 use Rattle.rules.specs.Heading.{TermRule, term_rules, term_rule, unit_rule, average_rule, ruled}
@@ -68,4 +68,4 @@ module _ (t : List ℕ) (size : length t ≡ length term_rules) where
     terms_passed h none = unfolds h ∙ first_passes n (drop (k + 1) (ruled term_rules [] t)) none
 
   pub terms_done : (k : ℕ) → length term_rules ≤ k → terms_from t k ≡ 0
-  terms_done k h = rw (drop_of_length_le (ruled term_rules [] t) {i = k} (omega (arith, all)))
+  terms_done k h = rw (drop_of_length-le (ruled term_rules [] t) {i = k} (omega (arith, all)))

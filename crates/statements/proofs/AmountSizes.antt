@@ -3,7 +3,7 @@ use mathlib.Core.Path.{◌≡◌, refl}
 use mathlib.Core.Bool.{Bool, true, false, cond}
 use mathlib.Core.List.{List, [], ◌∷◌}
 use Prim.Native.Nat.{ℕ, zero, suc, ◌-◌, ◌*◌, ◌≤◌, ◌<◌}
-use native.Mathlib.Nat.{mul_le_mul_right}
+use native.Mathlib.Nat.{mul-le-mul_right}
 use native.Mathlib.Omega.{arith}
 use lib.Dec.{ltb}
 use lib.ListN.{length, get_or}
@@ -73,7 +73,7 @@ printed_amounts_fit s c accepted =
     let value = total_small p rows (λ f. f.value) 7100000000 members (λ j h. (small j h).value) in
     let cost = total_small p rows (λ f. f.cost) 7100000050 members (λ j h. (small j h).cost) in
     let liability = total_small p rows (λ f. f.liability) 7100000000 members (λ j h. (small j h).liability) in
-    let gap : nat_abs (unfunded p rows members) ≤ 99999999999999 = less_size (total p rows (λ f. f.liability) members) p.assets 99999999999999 (omega (arith, mul_le_mul_right 7100000000 rules.few)) head.assets in
+    let gap : nat_abs (unfunded p rows members) ≤ 99999999999999 = less_size (total p rows (λ f. f.liability) members) p.assets 99999999999999 (omega (arith, mul-le-mul_right 7100000000 rules.few)) head.assets in
     record {
       id = λ j h. omega (arith, id_small p rows (id_before members j) (get_or members j nobody) (rules.member j h));
       count = omega (arith, rules.few);
@@ -84,9 +84,9 @@ printed_amounts_fit s c accepted =
             cost = omega (arith, (small j h).cost);
             liability = omega (arith, (small j h).liability);
           };
-      value = omega (arith, mul_le_mul_right 7100000000 rules.few);
-      cost = omega (arith, mul_le_mul_right 7100000050 rules.few);
-      liability = omega (arith, mul_le_mul_right 7100000000 rules.few);
+      value = omega (arith, mul-le-mul_right 7100000000 rules.few);
+      cost = omega (arith, mul-le-mul_right 7100000050 rules.few);
+      liability = omega (arith, mul-le-mul_right 7100000000 rules.few);
       unfunded_size = omega arith;
       supplemental_size = omega (arith, payment_size (unfunded p rows members) (C p.interest p.years) (C_least p.interest p.years head.years.0));
     }

@@ -6,7 +6,7 @@ use Prim.Native.Nat.{ℕ, zero, suc, ◌+◌, ◌/◌, ◌%◌, ◌≤◌, ◌<�
 use native.Mathlib.Nat.{le_refl}
 use native.Mathlib.Omega.{arith}
 use borrow.Author.Tests.{ne_eqb}
-use lib.ListN.{length, get_or, drop, drop_of_length_le}
+use lib.ListN.{length, get_or, drop, drop_of_length-le}
 use lib.Seq.{drop-cons, append_snoc}
 use Rattle.fields.specs.Text.{bytes}
 use Rattle.fields.specs.Split.{upto_of, past_of}
@@ -85,4 +85,4 @@ module _ (p : Plan) (rows : List (List ℕ)) where
   pub members_done : (l : List Member) (rest : List ℕ) → lines_past (length l) (member_lines p rows l ++ rest) ≡ rest
   unfolding member_lines
   members_done l rest =
-      members_past l rest (length l) (le_refl (length l)) ∙ rw (drop_of_length_le l (le_refl (length l)))
+      members_past l rest (length l) (le_refl (length l)) ∙ rw (drop_of_length-le l (le_refl (length l)))

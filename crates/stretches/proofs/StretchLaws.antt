@@ -8,7 +8,7 @@ use lib.ListN.{length, drop, length-drop}
 use lib.Seq.{drop-drop}
 use lib.Dec.{eqb}
 use native.Mathlib.Omega.{arith}
-use borrow.Author.Tests.{eq_eqb, ne_eqb}
+use borrow.Author.Tests.{eq-eqb, ne_eqb}
 use Rattle.fields.specs.Split.{has_of, upto_of, past_of}
 use Rattle.fields.proofs.AnswerLaws.{GoodLine}
 use Rattle.walk.specs.Outcome.{refusal, and_then, settled}
@@ -44,7 +44,7 @@ module _ (ranges : Bool) (k : ℕ) (state : State) (s : List ℕ) where
 
       pub line_passed : {rest : List ℕ} → x ≡ 0 → rest ≡ past_of 10 s → walk_from ranges k state s ≡ walk_from ranges (k + 1) next rest
       unfolding step
-      line_passed h on = from_line ranges k state s has ∙ rw (is, on) (simp (sym rule, eq_eqb x 0 h))
+      line_passed h on = from_line ranges k state s has ∙ rw (is, on) (simp (sym rule, eq-eqb x 0 h))
 
 -- the place after a line that begins at place `at`
 module _ (s : List ℕ) (at e : ℕ) (g : GoodLine (drop at s) e) where

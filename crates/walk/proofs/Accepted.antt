@@ -5,7 +5,7 @@ use mathlib.Core.List.{List, [], ◌∷◌, ◌++◌, append_assoc, append-nil}
 use mathlib.Core.Bool.{Bool, true, false, cond}
 use mathlib.Core.Logic.{◌↔◌}
 use lib.ListN.{length, get_or, take, length-append, get_or-append}
-use borrow.Author.Tests.{eqb-true, eq_eqb}
+use borrow.Author.Tests.{eqb-true, eq-eqb}
 use lib.Seq.{get_or_at}
 use lib.Dec.{eqb, ltb}
 use native.Mathlib.Omega.{arith}
@@ -145,7 +145,7 @@ module _ (h : Head) where
   kept_sums before (m ∷ l) own low =
       let p = plan_in h in
       let parts = sum_both p h.rows m.person before (m ∷ l) in
-      let mine = eq_eqb m.person m.person refl in
+      let mine = eq-eqb m.person m.person refl in
       let sum : sum_in h m.person before + (B p h.rows m p.retire + sum_in h m.person l) ≤ 100000000 = rw (parts, mine) at (low m.person) in (
         (line_kept p h.rows (last_id before) (sum_in h m.person before) m).1 (rw append-nil at (own 0 (omega arith)), omega arith),
         kept_sums (before ++ m ∷ []) l (λ j h. rw append_assoc (own (suc j) (omega arith))) (λ person. rw append_assoc (low person)),

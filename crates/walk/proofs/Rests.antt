@@ -3,7 +3,7 @@ use Prim.Native.Nat.{ℕ, zero, suc, ◌+◌, ◌<◌}
 use mathlib.Core.Path.{◌≡◌, refl, sym, ap, ◌∙◌}
 use mathlib.Core.List.{List, [], ◌∷◌, ◌++◌, append_assoc, append-nil}
 use mathlib.Core.Bool.{Bool, true, false, cond}
-use lib.ListN.{length, take, drop_of_length_le}
+use lib.ListN.{length, take, drop_of_length-le}
 use lib.Seq.{take_all}
 use lib.Dec.{eqb, leb, ltb, eqb-suc-zero}
 use native.Mathlib.Omega.{arith}
@@ -70,7 +70,7 @@ through_all : (j : ℕ) (s : List ℕ) → has_of 10 s ≡ false → through (su
 unfolding through past_of has_of
 through_all j s h =
     let long = ltb-false (seek_of 10 s) (length s) h in
-    rw (take_all (seek_of 10 s + 1) s (omega arith), drop_of_length_le s {i = seek_of 10 s + 1} (omega arith))
+    rw (take_all (seek_of 10 s + 1) s (omega arith), drop_of_length-le s {i = seek_of 10 s + 1} (omega arith))
     (ap (λ (l : List ℕ). s ++ l) (through_none j) ∙ append-nil s)
 
 -- ---- what the step makes of the line ahead: `b` and `b'` say whether two of them begin amend=

@@ -6,7 +6,7 @@ use Prim.Native.Nat.{ℕ, suc, ◌+◌, ◌<◌}
 use native.Mathlib.Omega.{arith}
 use lib.Dec.{eqb}
 use lib.ListN.{length, get_or}
-use borrow.Author.Tests.{eqb-true, eq_eqb}
+use borrow.Author.Tests.{eqb-true, eq-eqb}
 use Rattle.fields.specs.Text.{bytes}
 use Rattle.fields.specs.Split.{starts_of}
 use Rattle.fields.specs.Numbers.{whole_of, amount_of}
@@ -67,7 +67,7 @@ pub row_back : (age : ℕ) (row : List ℕ) → length row ≡ 4 → age < 10000
 unfolding row_form row_line
 row_back age row all due small =
     let x = text_keyed wholes (bytes "row=") 4 (age ∷ numbers_of row) refl (due, small) in
-    ap (in_turn age) x ∙ simp (eq_eqb age age refl) (ap found (sym (four row all)))
+    ap (in_turn age) x ∙ simp (eq-eqb age age refl) (ap found (sym (four row all)))
 
 pub row_self : (age : ℕ) (row r : List ℕ) → length row ≡ 4 → row_form age (row_line age row) ≡ found r → r ≡ row
 unfolding row_form row_line

@@ -6,7 +6,7 @@ use Prim.Native.Nat.{ℕ, zero, suc, ◌+◌, ◌≤◌, ◌<◌}
 use native.Mathlib.Omega.{arith}
 use native.Mathlib.Nat.{add-zero}
 use lib.Dec.{ltb, eqb}
-use lib.ListN.{length, get_or, drop, drop_of_length_le, length-map, get_or-eq_default}
+use lib.ListN.{length, get_or, drop, drop_of_length-le, length-map, get_or-eq_default}
 use borrow.Author.Tests.{eqb-true, ltb-true, ltb-false}
 use Rattle.fields.specs.Text.{bytes}
 use Rattle.fields.specs.Split.{starts_of, same_of}
@@ -54,7 +54,7 @@ unfolding same_of
 same_is text s e =
     let starts = and_true_left (starts_of text s) (eqb (length s) (length text)) e in
     let long = eqb-true (length s) (length text) (and_true_right (starts_of text s) (eqb (length s) (length text)) e) in
-    let none : drop (length text) s ≡ [] = drop_of_length_le s {i = length text} (omega (arith, long)) in
+    let none : drop (length text) s ≡ [] = drop_of_length-le s {i = length text} (omega (arith, long)) in
     starts_split text s starts ∙ rw none (append-nil text)
 
 -- the word that was read, by its place

@@ -5,7 +5,7 @@ use mathlib.Core.List.{List, [], ◌∷◌, ◌++◌, append-nil}
 use Prim.Native.Nat.{ℕ, zero, suc, ◌<◌}
 use native.Mathlib.Omega.{arith}
 use lib.ListN.{length, get_or, drop}
-use borrow.Author.Tests.{eq_eqb}
+use borrow.Author.Tests.{eq-eqb}
 use Rattle.fields.specs.Split.{has_of, upto_of, past_of, starts_of}
 use Rattle.fields.specs.Numbers.{Number, value, malformed, whole_of, amount_of}
 use Rattle.fields.specs.Values.{Values, found, misread, before, values_of, keyed_of}
@@ -134,7 +134,7 @@ module _ {last : List ℕ → Number} {show : ℕ → List ℕ} {most : ℕ} (ki
       where
         starts_itself : (key t : List ℕ) → starts_of key (key ++ t) ≡ true
         starts_itself [] t = refl
-        starts_itself (k ∷ key) t = simp (eq_eqb k k refl) (starts_itself key t)
+        starts_itself (k ∷ key) t = simp (eq-eqb k k refl) (starts_itself key t)
 
     pub text_keyed : (vs : List ℕ) → length vs ≡ suc n → Small most n vs → keyed_of key last n (key ++ texts show n vs) ≡ found vs
     text_keyed vs long small = after_key (texts show n vs) ∙ text_values n vs long small

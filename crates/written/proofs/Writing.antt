@@ -7,7 +7,7 @@ use native.Mathlib.Omega.{arith}
 use native.Mathlib.Nat.{add-zero}
 use lib.Dec.{leb, eqb}
 use lib.ListN.{length, get_or, length-append}
-use borrow.Author.Tests.{eq_eqb, ne_eqb, lt-leb}
+use borrow.Author.Tests.{eq-eqb, ne_eqb, lt-leb}
 use Rattle.fields.specs.Values.{Values, found, misread}
 use Rattle.rates.specs.Table.{ages}
 use Rattle.plan.specs.declared.Amendment.{Amendment}
@@ -100,7 +100,7 @@ terms_go (form ∷ forms) [] all before (v ∷ vs) more long some full same = ab
 terms_go (form ∷ forms) (t ∷ ts) all before (v ∷ []) more long some full same =
     let here = term_reads before v all.0 (sym (ap term_form (add-zero (length before))) ∙ same 0) in
     let u = before ++ v ∷ [] in
-    let last : after_term u ≡ amending (headed u) = simp (eq_eqb (length u) (length term_forms) (simp length-append (omega arith))) in
+    let last : after_term u ≡ amending (headed u) = simp (eq-eqb (length u) (length term_forms) (simp length-append (omega arith))) in
     rw last at (passes more here) onward stay _ _ _
 terms_go (form ∷ forms) (t ∷ ts) all before (v ∷ w ∷ vs) more long some full same =
     let here = term_reads before v all.0 (sym (ap term_form (add-zero (length before))) ∙ same 0) in
@@ -186,7 +186,7 @@ unfolding row_lines
 rows_go h state [] more due fours some full = absurd (omega arith)
 rows_go h state (row ∷ []) more due fours some full =
     let last : length (h.rows ++ row ∷ []) ≡ ages = simp length-append (omega arith) in
-    let next : after_row (with_row h row) ≡ people (with_row h row) [] = simp (eq_eqb _ _ last) in
+    let next : after_row (with_row h row) ≡ people (with_row h row) [] = simp (eq-eqb _ _ last) in
     rw next at (passes more (row_reads h state due row fours.0 (omega arith))) onward stay _ _ _
 rows_go h state (row ∷ r ∷ l) more due fours some full =
     let size : length (h.rows ++ row ∷ []) ≡ suc (length h.rows) = simp length-append (omega arith) in
@@ -225,7 +225,7 @@ end_reads : (h : Head) (members : List Member) → Reads (length members < 10000
 unfolding verdict_of
 end_reads h members =
     record {
-      on = λ fits ahead. (0, rw (end_back (leb most_members (length members)) (length members) fits, eq_eqb (length members) (length members) refl));
+      on = λ fits ahead. (0, rw (end_back (leb most_members (length members)) (length members) fits, eq-eqb (length members) (length members) refl));
       only = λ ahead. pick (tail_of (leb most_members (length members)) (end_line (length members))) (end_only (leb most_members (length members)) (length members));
     }
   where

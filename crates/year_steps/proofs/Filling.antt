@@ -3,7 +3,7 @@ use mathlib.Core.Path.{◌≡◌, refl, ◌∙◌}
 use mathlib.Core.List.{List, []}
 use mathlib.Core.Logic.{⊎_elim}
 use Prim.Native.Nat.{ℕ, ◌+◌, ◌-◌, ◌*◌, ◌≤◌, ◌<◌}
-use native.Mathlib.Nat.{zero-add, eq-or-lt_of_le, mul_le_mul_right}
+use native.Mathlib.Nat.{zero-add, eq-or-lt_of_le, mul-le-mul_right}
 use native.Mathlib.Omega.{arith}
 use lib.ListN.{get_or, set, replicate, length-set, get_or-replicate}
 use lib.Seq.{get_or-set_same, get_or-set_other}
@@ -72,7 +72,7 @@ amount_le : (weight : ℕ) (amount : Amount) → weight ≤ 100000 → paid_of w
 unfolding paid_of
 amount_le weight Nothing h = omega arith
 amount_le weight One h = omega arith
-amount_le weight Weight h = mul_le_mul_right S h
+amount_le weight Weight h = mul-le-mul_right S h
 
 -- at most 106 amounts of the largest weight, and a start
 pub factor_most : (b : Basis) → Fair b → (amount : Amount) (top start k : ℕ) → top ≤ 120 → 15 ≤ k → start ≤ 106 * S
@@ -81,7 +81,7 @@ unfolding factor
 factor_most b fair amount top start k high low st weights =
     let m = annuity_most b fair (λ j. paid_of (b.W j) amount) (100000 * S) start 1 k (top - k) (omega arith)
     (λ j from to. amount_le (b.W j) amount (weights j (omega arith) (omega arith))) in
-    omega (arith, m, mul_le_mul_right {m = 1 + (top - k)} {n = 107} (100000 * S) (omega arith))
+    omega (arith, m, mul-le-mul_right {m = 1 + (top - k)} {n = 107} (100000 * S) (omega arith))
 
 -- ---- A, T and Z are cases of it by computing, and G by a law
 pub deferred_filled : (pay : ℕ) (b : Basis) {a : List ℕ} → Filled (factor b Nothing b.r (pension (payable pay b))) b.r 15 a → Filled (G (payable pay b)) b.r 15 a

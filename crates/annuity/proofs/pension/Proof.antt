@@ -4,7 +4,7 @@ use Prim.Native.Nat.{ℕ, ◌-◌}
 use native.Mathlib.Omega.{arith}
 use lib.ListN.{get_or}
 use borrow.Author.Rules.{rules}
-use borrow.Author.Tests.{eq_eqb, ne_eqb}
+use borrow.Author.Tests.{eq-eqb, ne_eqb}
 use Rattle.factors.specs.Basis.{basis, payable}
 use Rattle.factors.specs.Factors.{monthly_less, A, pension}
 use Rattle.factors.proofs.Bases.{A_payable}
@@ -27,7 +27,7 @@ sub_result c =
 
 returns : tie.Need-returns
 unfolding pension
-returns c = simp (eq_eqb c.before.before.args.pay 12 (omega arith)) (ap (λ (f : ℕ). f - monthly_less) (yearly c.before))
+returns c = simp (eq-eqb c.before.before.args.pay 12 (omega arith)) (ap (λ (f : ℕ). f - monthly_less) (yearly c.before))
 
 returns_2 : tie.Need-returns-2
 unfolding pension

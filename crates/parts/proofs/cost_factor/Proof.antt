@@ -1,6 +1,6 @@
 -- `parts::cost_factor` meets its contract.
 use Prim.Native.Nat.{◌*◌}
-use native.Mathlib.Nat.{mul_le_mul}
+use native.Mathlib.Nat.{mul-le-mul}
 use native.Mathlib.Omega.{arith}
 use Rattle.factors.specs.Factors.{S}
 use borrow.Author.Rules.{rules}
@@ -10,7 +10,7 @@ use Rattle.parts.proofs.cost_factor.Tie as tie
 mul_result : tie.Need-overflow-mul-result
 mul_result c =
     let fits = c.before.before.before.requires.0 in
-    omega (arith, mul_le_mul {n₂ = 100000000} {m₂ = 71 * S} fits.benefit fits.entered)
+    omega (arith, mul-le-mul {n₂ = 100000000} {m₂ = 71 * S} fits.benefit fits.entered)
 
 pub cost_factor_spec : {M : Type 1} → statement M
 cost_factor_spec =

@@ -1,7 +1,7 @@
 -- `plan::benefit::benefit` meets its contract.
 use mathlib.Core.Path.{◌≡◌, sym, ap, ◌∙◌}
 use Prim.Native.Nat.{ℕ, ◌-◌, ◌*◌, ◌≤◌}
-use native.Mathlib.Nat.{mul_le_mul}
+use native.Mathlib.Nat.{mul-le-mul}
 use native.Mathlib.Omega.{arith}
 use Rattle.rounding.specs.Nearest.{nearest}
 use Rattle.rates.specs.Table.{weight}
@@ -35,7 +35,7 @@ mul_result c =
     let s = c.before.before.before.before.before.before.before in
     let unit = s.requires.0.head.flat_unit in
     let k : s.args.k ≤ 75 = omega (arith, s.requires.3, s.requires.0.head.retire.1) in
-    omega (arith, mul_le_mul {n₂ = 100000} {m₂ = 60} unit (years_most s.requires.0 s.requires.1 s.args.k s.requires.3), mul_le_mul {n₂ = 100000} {m₂ = 75} unit k)
+    omega (arith, mul-le-mul {n₂ = 100000} {m₂ = 60} unit (years_most s.requires.0 s.requires.1 s.args.k s.requires.3), mul-le-mul {n₂ = 100000} {m₂ = 75} unit k)
 
 career_requires : tie.Need-career-requires
 career_requires c κs =
