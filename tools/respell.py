@@ -120,6 +120,9 @@ def modules():
 def respell(text, new, path):
     out = []
     rust = path.endswith(".rt")
+    if rust:
+        # a function of src/ keeps its name, also where a lemma of that name gets another
+        new = {o: n for o, n in new.items() if not re.search(r"\bfn " + re.escape(o) + r"\b", text)}
     for line in text.split("\n"):
         mark = "//" if rust else "--"
         at = -1

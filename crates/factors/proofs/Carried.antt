@@ -1,5 +1,5 @@
 -- The laws of the one recursion: its two equations, and what a year keeps, all the years keep.
-use mathlib.Core.Path.{◌≡◌, refl, ap, ◌∙◌}
+use mathlib.Core.Path.{◌≡◌, refl, sym, ap, ◌∙◌}
 use Prim.Native.Nat.{ℕ, zero, suc, ◌+◌, ◌-◌, ◌≤◌, ◌<◌}
 use native.Mathlib.Omega.{arith}
 use Rattle.factors.specs.Recursion.{carried}
@@ -59,4 +59,6 @@ carried_split year start k zero d =
 carried_split year start k (suc n) d =
     let n_is : suc n + d ≡ suc (n + d) = omega arith in
     let k_is : k + suc n ≡ suc k + n = omega arith in
-    rw (n_is, k_is) (ap (year k) (carried_split year start (suc k) n d))
+    ap (λ (m : ℕ). carried year start k m) n_is
+    ∙ (ap (year k) (carried_split year start (suc k) n d)
+    ∙ ap (λ (m : ℕ). year k (carried year (carried year start m d) (suc k) n)) (sym k_is))

@@ -11,7 +11,7 @@ pub enum Field {
 }
 
 // A decimal digit. One function, so that LLVM makes one test of it.
-fn is_digit_lem(c: u8) -> bool
+fn is_digit(c: u8) -> bool
     ensures value { result ≡ is_digit c }
     ensures le_c { result ≡ true → (48 ≤ c) × (c ≤ 57) }
 {
