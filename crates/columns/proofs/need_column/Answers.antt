@@ -1,8 +1,5 @@
 -- `columns::need_column` meets its contract.
-use mathlib.Core.Bool.{false}
-use lib.ListN.{get_or}
 use Prim.Native.Nat.{◌-◌}
-use borrow.Author.Tests.{not-false}
 use Rattle.columns.proofs.ColumnLaws.{kept_all, kept_more, columns_more, marked_more}
 use Rattle.columns.proofs.need_column.Goals as goal
 
@@ -13,4 +10,4 @@ returns-then-not-filled c = let e = c.args.e in
     record { filled_columns = columns_more c.requires.4 e c.requires.2 c.requires.3 fills; columns_kept = kept; marked = marked_more c.requires.4 e c.requires.2 c.requires.3 fills }
 
 pub returns-else-not-filled : goal.returns-else-not-filled
-returns-else-not-filled c = record { filled_columns = c.requires.4; columns_kept = kept_all c.args.columns.now c.args.marks.now; marked = not-false (get_or c.args.marks.now (c.args.e - 15) false) c.if-not-filled.false }
+returns-else-not-filled c = record { filled_columns = c.requires.4; columns_kept = kept_all c.args.columns.now c.args.marks.now; marked = c.if-not-filled.false }

@@ -7,6 +7,14 @@ pub between-requires : goal.between-requires
 unfolding factor paid_of Z
 between-requires c = c.requires
 
-pub returns : goal.returns
+pub returns-clause-value : goal.returns-clause-value
 unfolding factor paid_of Z
-returns c = c.between.ensures
+returns-clause-value c = c.between.ensures.value
+
+pub returns-clause-filled_columns : goal.returns-clause-filled_columns
+unfolding factor paid_of Z
+returns-clause-filled_columns c = c.between.ensures.filled_columns
+
+pub returns-clause-columns_kept : goal.returns-clause-columns_kept
+unfolding factor paid_of Z
+returns-clause-columns_kept c = c.between.ensures.columns_kept
