@@ -7,8 +7,8 @@ pub pay_annuity-requires : goal.pay_annuity-requires
 pay_annuity-requires c = (c.is_table.ensures c.if-not-is_table.false, omega (arith, ltb-false), omega (arith, ltb-false), omega (arith, ltb-false))
 
 pub copy-requires : goal.copy-requires
-copy-requires c = eqb-true _ _ (not-false _ c.if-out-ne-AGES.false)
+copy-requires c = c.if-out-ne-AGES.false
 
 pub returns : goal.returns
 returns c = let rows = c.rows_of-rows.ensures in
-    rw c.copy.ensures (rw rows at c.pay_annuity.ensures)
+    λ _. rw c.copy.ensures (rw rows at c.pay_annuity.ensures)

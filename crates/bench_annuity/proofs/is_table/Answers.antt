@@ -11,4 +11,4 @@ loop-j-preserved c = let l = c.loop-j in
 
 pub returns : goal.returns
 returns c = let l = c.loop-j in
-    sound_table c.args.rows (λ k lt. l.invariant.1 k (omega arith))
+    λ _. sound_table c.args.rows (λ k lt. l.invariant.1 k (omega arith))
