@@ -132,7 +132,7 @@ def respell(text, new, path):
             m = re.search(r"(?:^|\s)" + re.escape(mark) + r"\s", line)
             at = m.start() if m else -1
         code, said = (line, "") if at < 0 else (line[:at], line[at:])
-        code = NAME.sub(lambda m: word(m.group(0), new), code) if '"' not in code or not rust else code
+        code = "".join(piece if i % 2 else NAME.sub(lambda m: word(m.group(0), new), piece) for i, piece in enumerate(re.split(r'("[^"]*")', code)))
         said = re.sub(r"`[^`]*`", lambda m: NAME.sub(lambda w: word(w.group(0), new), m.group(0)), said)
         said = re.sub(r"\b[a-z]+[A-Z]\w*\b", lambda m: word(m.group(0), new), said)
         out.append(code + said)

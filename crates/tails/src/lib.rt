@@ -63,7 +63,7 @@ fn full_line(s: &[u8], values: &mut Read) -> Kind
 
 // A line that doesn't begin as a member's.
 fn end_line(s: &[u8], full: bool, values: &mut Read) -> Kind
-    requires { startsOf (bytes "member=") s.now ≡ false }
+    requires { starts_of (bytes "member=") s.now ≡ false }
     ensures value { result ≡ kind_of full s.now }
     ensures tail_held { TailHeld full s.now result values.new }
 {

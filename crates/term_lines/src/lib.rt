@@ -54,7 +54,7 @@ fn write_method(out: &mut [u8], at: usize, code: u64) -> usize
 // Writes the line of a formula.
 fn write_formula_line(out: &mut [u8], at: usize, code: u64) -> usize
     requires { at + 15 < 2 ^ 64 }
-    ensures puts { Puts out.old at (closedLines ((bytes "formula=" ++ word_of formulaWords code) ∷ [])) out.new result }
+    ensures puts { Puts out.old at (closed_lines ((bytes "formula=" ++ word_of formula_words code) ∷ [])) out.new result }
     ensures upper_bound { result ≤ at + 15 }
 {
     let a = write_text(out, at, b"formula=");
@@ -65,7 +65,7 @@ fn write_formula_line(out: &mut [u8], at: usize, code: u64) -> usize
 // Writes the line of a method.
 fn write_method_line(out: &mut [u8], at: usize, code: u64) -> usize
     requires { at + 10 < 2 ^ 64 }
-    ensures puts { Puts out.old at (closedLines ((bytes "method=" ++ word_of methodWords code) ∷ [])) out.new result }
+    ensures puts { Puts out.old at (closed_lines ((bytes "method=" ++ word_of method_words code) ∷ [])) out.new result }
     ensures upper_bound { result ≤ at + 10 }
 {
     let a = write_text(out, at, b"method=");
@@ -76,7 +76,7 @@ fn write_method_line(out: &mut [u8], at: usize, code: u64) -> usize
 // Writes the line of the assets.
 fn write_assets_line(out: &mut [u8], at: usize, cents: u64) -> usize
     requires { at + 31 < 2 ^ 64 }
-    ensures puts { Puts out.old at (closedLines ((bytes "assets=" ++ amount cents) ∷ [])) out.new result }
+    ensures puts { Puts out.old at (closed_lines ((bytes "assets=" ++ amount cents) ∷ [])) out.new result }
     ensures upper_bound { result ≤ at + 31 }
 {
     let a = write_text(out, at, b"assets=");

@@ -27,16 +27,16 @@ pub offset_bounds-cells-cell : goal.offset_bounds-cells-cell
 offset_bounds-cells-cell c = omega (arith, cell_low c)
 
 pub bounds-cells-cell : goal.bounds-cells-cell
-bounds-cells-cell c = cell_low c.before
+bounds-cells-cell c = cell_low (goal.at.bounds-cells-cell c).After-find-cell
 
 pub overflow_cast-cells : goal.overflow_cast-cells
 overflow_cast-cells c = omega (arith, c.requires.1)
 
 pub offset_bounds-cells-cell-then-line-eq0 : goal.offset_bounds-cells-cell-then-line-eq0
-offset_bounds-cells-cell-then-line-eq0 c = omega (arith, cell_low c.before.before.before.before)
+offset_bounds-cells-cell-then-line-eq0 c = omega (arith, cell_low (goal.at.offset_bounds-cells-cell-then-line-eq0 c).After-find-cell)
 
 pub bounds-cells-cell-then-line-eq0 : goal.bounds-cells-cell-then-line-eq0
-bounds-cells-cell-then-line-eq0 c = cell_low c.before.before.before.before
+bounds-cells-cell-then-line-eq0 c = cell_low (goal.at.bounds-cells-cell-then-line-eq0 c).After-find-cell
 
 pub returns-then-line-eq0 : goal.returns-then-line-eq0
 returns-then-line-eq0 c = let both = adds_new c.requires.0 c.requires.2 c.find-cell.ensures c.number-line.ensures c.if-line-eq0.true c.requires.1 c.requires.3 in
@@ -46,23 +46,23 @@ pub overflow_sub-sum : goal.overflow_sub-sum
 overflow_sub-sum c = omega (arith, c.if-line-eq0.false)
 
 pub offset_bounds-sums-line : goal.offset_bounds-sums-line
-offset_bounds-sums-line c = omega (arith, line_low c.before)
+offset_bounds-sums-line c = omega (arith, line_low (goal.at.offset_bounds-sums-line c).After-number-line)
 
 pub bounds-sums-line : goal.bounds-sums-line
-bounds-sums-line c = omega (arith, line_low c.before)
+bounds-sums-line c = omega (arith, line_low (goal.at.bounds-sums-line c).After-number-line)
 
 pub overflow_add-sum : goal.overflow_add-sum
-overflow_add-sum c = omega (arith, sum_low c.before.before, c.requires.3)
+overflow_add-sum c = omega (arith, sum_low (goal.at.overflow_add-sum c).After-number-line, c.requires.3)
 
 pub returns-then-sum-gt100000000 : goal.returns-then-sum-gt100000000
 returns-then-sum-gt100000000 c = let both = adds_over c.requires.0 c.requires.2 c.find-cell.ensures c.number-line.ensures c.if-line-eq0.false c.args.benefit refl c.if-sum-gt100000000.true in
     record { value = both.0; rooted = both.1.0; other_after = both.1.1 }
 
 pub offset_bounds-sums-line-2 : goal.offset_bounds-sums-line-2
-offset_bounds-sums-line-2 c = omega (arith, line_low c.before.before.before)
+offset_bounds-sums-line-2 c = omega (arith, line_low (goal.at.offset_bounds-sums-line-2 c).After-number-line)
 
 pub bounds-sums-line-2 : goal.bounds-sums-line-2
-bounds-sums-line-2 c = omega (arith, line_low c.before.before.before)
+bounds-sums-line-2 c = omega (arith, line_low (goal.at.bounds-sums-line-2 c).After-number-line)
 
 pub returns : goal.returns
 returns c = let both = adds_later c.requires.0 c.requires.2 c.find-cell.ensures c.number-line.ensures c.if-line-eq0.false c.args.benefit refl (omega (arith, c.if-sum-gt100000000.false)) in

@@ -4,7 +4,6 @@ use mathlib.Core.Bool.{false}
 use Prim.Native.Nat.{ℕ, suc, ◌-◌, ◌/◌, ◌%◌, ◌<◌}
 use native.Mathlib.Omega.{arith}
 use native.Mathlib.Nat.{mod-lt}
-use borrow.Author.Tests.{not-true, not-false}
 use Rattle.persons.specs.Search.{line_in, branch, stops_at, Leads}
 use Rattle.persons.proofs.SearchLaws.{next_higher}
 use Rattle.persons.proofs.find.Goals as goal
@@ -19,7 +18,7 @@ record Turn (c : After-branch_of-cell) : Type 0 where
 turn : (c : After-branch_of-cell) → Turn c
 turn c =
     let l = c.loop-cell in
-    let on = sym c.stops.ensures ∙ not-true _ c.loop-cell-test.true in
+    let on = sym c.stops.ensures ∙ c.loop-cell-test.true in
     record {
       on = on;
       next = c.branch_of-cell.ensures ∙ ap (λ (line : ℕ). branch line l.rest) c.number.ensures;
@@ -51,5 +50,5 @@ loop-cell-preserved c = let a = c.args in
     )
 
 pub returns : goal.returns
-returns c = let stops = sym c.stops.ensures ∙ not-false _ c.loop-cell-test.false in
+returns c = let stops = sym c.stops.ensures ∙ c.loop-cell-test.false in
     c.loop-cell.invariant.1 0 c.loop-cell.cell (refl, stops)

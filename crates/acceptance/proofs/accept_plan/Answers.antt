@@ -1,0 +1,7 @@
+-- `acceptance::accept_plan` meets its contract.
+use mathlib.Core.Path.{ap, ◌∙◌}
+use Rattle.acceptance.specs.Answers.{acceptance_of}
+use Rattle.acceptance.proofs.accept_plan.Goals as goal
+
+pub returns : goal.returns
+returns c = c.answer_of.ensures ∙ ap acceptance_of c.plan_refusal.ensures
