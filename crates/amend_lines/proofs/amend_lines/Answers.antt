@@ -46,15 +46,15 @@ from-requires-in-loop-p c = c.loop-p.invariant.within
 
 pub overflow_add-at : goal.overflow_add-at
 unfolding AmendsAre
-overflow_add-at c = omega (arith, amends_place c.loop-p.invariant (on (goal.at.overflow_add-at c).Else-not-begins) c.amend_line.new.1.0 c.from-in-loop-p.ensures c.amend_line.ensures c.in-Good.is)
+overflow_add-at c = omega (arith, amends_place c.loop-p.invariant (on (goal.at.overflow_add-at c).Else-not-begins) c.amend_line.new.values c.from-in-loop-p.ensures (c.amend_line.ensures.value, c.amend_line.ensures.by_index) c.in-Good.is)
 
 pub overflow_add-at-in-Good : goal.overflow_add-at-in-Good
 unfolding AmendsAre
-overflow_add-at-in-Good c = omega (arith, amends_place c.loop-p.invariant (on (goal.at.overflow_add-at-in-Good c).Else-not-begins) c.amend_line.new.1.0 c.from-in-loop-p.ensures c.amend_line.ensures c.in-Good.is)
+overflow_add-at-in-Good c = omega (arith, amends_place c.loop-p.invariant (on (goal.at.overflow_add-at-in-Good c).Else-not-begins) c.amend_line.new.values c.from-in-loop-p.ensures (c.amend_line.ensures.value, c.amend_line.ensures.by_index) c.in-Good.is)
 
 pub from-requires-in-Good : goal.from-requires-in-Good
 unfolding AmendsAre
-from-requires-in-Good c = omega (arith, amends_place c.loop-p.invariant (on (goal.at.from-requires-in-Good c).Else-not-begins) c.amend_line.new.1.0 c.from-in-loop-p.ensures c.amend_line.ensures c.in-Good.is)
+from-requires-in-Good c = omega (arith, amends_place c.loop-p.invariant (on (goal.at.from-requires-in-Good c).Else-not-begins) c.amend_line.new.values c.from-in-loop-p.ensures (c.amend_line.ensures.value, c.amend_line.ensures.by_index) c.in-Good.is)
 
 pub listed_refusal-refusal-requires : goal.listed_refusal-refusal-requires
 unfolding AmendsAre
@@ -62,11 +62,11 @@ listed_refusal-refusal-requires c = (ap length c.loop-p.invariant.held ∙ list_
 
 pub shape_of-list-then-refusal-ne0 : goal.shape_of-list-then-refusal-ne0
 unfolding AmendsAre
-shape_of-list-then-refusal-ne0 c = c.listed_refusal-refusal.auto.1.1.0 ∙ size (goal.at.shape_of-list-then-refusal-ne0 c).At-loop-p
+shape_of-list-then-refusal-ne0 c = c.listed_refusal-refusal.auto.list ∙ size (goal.at.shape_of-list-then-refusal-ne0 c).At-loop-p
 
 pub returns-then-refusal-ne0 : goal.returns-then-refusal-ne0
 unfolding AmendsAre
-returns-then-refusal-ne0 c = amends_refused c.loop-p.invariant (on (goal.at.returns-then-refusal-ne0 c).Else-not-begins) c.amend_line.new.1.0 c.from-in-loop-p.ensures c.amend_line.ensures c.in-Good.is c.amendment_from-a.ensures c.from-in-Good.ensures c.begins-more.ensures c.listed_refusal-refusal.ensures.0 c.if-refusal-ne0.true
+returns-then-refusal-ne0 c = amends_refused c.loop-p.invariant (on (goal.at.returns-then-refusal-ne0 c).Else-not-begins) c.amend_line.new.values c.from-in-loop-p.ensures (c.amend_line.ensures.value, c.amend_line.ensures.by_index) c.in-Good.is c.amendment_from-a.ensures c.from-in-Good.ensures c.begins-more.ensures c.listed_refusal-refusal.ensures.value c.if-refusal-ne0.true
 
 pub overflow_add-n : goal.overflow_add-n
 unfolding AmendsAre
@@ -74,11 +74,11 @@ overflow_add-n c = omega (arith, c.loop-p.invariant.few)
 
 pub loop-p-smaller : goal.loop-p-smaller
 unfolding AmendsAre
-loop-p-smaller c = let next = amends_next c.loop-p.invariant (on (goal.at.loop-p-smaller c).Else-not-begins) c.amend_line.new.1.0 c.from-in-loop-p.ensures c.amend_line.ensures c.in-Good.is c.amendment_from-a.ensures c.from-in-Good.ensures c.begins-more.ensures c.listed_refusal-refusal.ensures.0 c.if-refusal-ne0.false (c.listed_refusal-refusal.ensures.1 c.if-refusal-ne0.false) in omega (arith, next.few)
+loop-p-smaller c = let next = amends_next c.loop-p.invariant (on (goal.at.loop-p-smaller c).Else-not-begins) c.amend_line.new.values c.from-in-loop-p.ensures (c.amend_line.ensures.value, c.amend_line.ensures.by_index) c.in-Good.is c.amendment_from-a.ensures c.from-in-Good.ensures c.begins-more.ensures c.listed_refusal-refusal.ensures.value c.if-refusal-ne0.false (c.listed_refusal-refusal.ensures.list_after c.if-refusal-ne0.false) in omega (arith, next.few)
 
 pub loop-p-preserved : goal.loop-p-preserved
 unfolding AmendsAre
-loop-p-preserved c = amends_next c.loop-p.invariant (on (goal.at.loop-p-preserved c).Else-not-begins) c.amend_line.new.1.0 c.from-in-loop-p.ensures c.amend_line.ensures c.in-Good.is c.amendment_from-a.ensures c.from-in-Good.ensures c.begins-more.ensures c.listed_refusal-refusal.ensures.0 c.if-refusal-ne0.false (c.listed_refusal-refusal.ensures.1 c.if-refusal-ne0.false)
+loop-p-preserved c = amends_next c.loop-p.invariant (on (goal.at.loop-p-preserved c).Else-not-begins) c.amend_line.new.values c.from-in-loop-p.ensures (c.amend_line.ensures.value, c.amend_line.ensures.by_index) c.in-Good.is c.amendment_from-a.ensures c.from-in-Good.ensures c.begins-more.ensures c.listed_refusal-refusal.ensures.value c.if-refusal-ne0.false (c.listed_refusal-refusal.ensures.list_after c.if-refusal-ne0.false)
 
 pub shape_of-list-in-Wrong : goal.shape_of-list-in-Wrong
 unfolding AmendsAre
@@ -86,7 +86,7 @@ shape_of-list-in-Wrong c = size (goal.at.shape_of-list-in-Wrong c).At-loop-p
 
 pub returns-in-Wrong : goal.returns-in-Wrong
 unfolding AmendsAre
-returns-in-Wrong c = amends_wrong c.loop-p.invariant (on (goal.at.returns-in-Wrong c).Else-not-begins) c.amend_line.new.1.0 c.from-in-loop-p.ensures c.amend_line.ensures terms plan c.in-Wrong.is
+returns-in-Wrong c terms plan = amends_wrong c.loop-p.invariant (on (goal.at.returns-in-Wrong c).Else-not-begins) c.amend_line.new.values c.from-in-loop-p.ensures (c.amend_line.ensures.value, c.amend_line.ensures.by_index) terms plan c.in-Wrong.is
 
 pub shape_of-list-in-Cut : goal.shape_of-list-in-Cut
 unfolding AmendsAre
@@ -94,4 +94,4 @@ shape_of-list-in-Cut c = size (goal.at.shape_of-list-in-Cut c).At-loop-p
 
 pub returns-in-Cut : goal.returns-in-Cut
 unfolding AmendsAre
-returns-in-Cut c = amends_cut c.loop-p.invariant (on (goal.at.returns-in-Cut c).Else-not-begins) c.amend_line.new.1.0 c.from-in-loop-p.ensures c.amend_line.ensures terms plan c.in-Cut.is
+returns-in-Cut c terms plan = amends_cut c.loop-p.invariant (on (goal.at.returns-in-Cut c).Else-not-begins) c.amend_line.new.values c.from-in-loop-p.ensures (c.amend_line.ensures.value, c.amend_line.ensures.by_index) terms plan c.in-Cut.is

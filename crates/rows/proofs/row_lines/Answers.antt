@@ -36,11 +36,11 @@ overflow_add-at-in-Good c = omega (arith, rows_place c.loop-k.invariant c.loop-k
 
 pub returns-in-Wrong : goal.returns-in-Wrong
 unfolding RowsAre
-returns-in-Wrong c = rows_wrong c.loop-k.invariant c.loop-k-test.true c.row_line.new.values c.from.ensures (c.row_line.ensures.value, c.row_line.ensures.by_index) t l c.in-Wrong.is
+returns-in-Wrong c t l = rows_wrong c.loop-k.invariant c.loop-k-test.true c.row_line.new.values c.from.ensures (c.row_line.ensures.value, c.row_line.ensures.by_index) t l c.in-Wrong.is
 
 pub returns-in-Cut : goal.returns-in-Cut
 unfolding RowsAre
-returns-in-Cut c = rows_cut c.loop-k.invariant c.loop-k-test.true c.row_line.new.values c.from.ensures (c.row_line.ensures.value, c.row_line.ensures.by_index) t l c.in-Cut.is
+returns-in-Cut c t l = rows_cut c.loop-k.invariant c.loop-k-test.true c.row_line.new.values c.from.ensures (c.row_line.ensures.value, c.row_line.ensures.by_index) t l c.in-Cut.is
 
 pub overflow_add-line : goal.overflow_add-line
 unfolding RowsAre
