@@ -40,7 +40,7 @@ loop-j-preserved c = let l = c.loop-j in
     let stood = c.stands.ensures in (
       l.invariant.0,
       elim c.if-stands.branch [
-          then-stands w ↦ rw (w.force-is, w.sum-is, w.n-is) (summed_in l.invariant.1 test l.invariant.0 a is (sym stood ∙ w.if-stands.true) (small c.before.before))
+        | then-stands w ↦ rw (w.force-is, w.sum-is, w.n-is) (summed_in l.invariant.1 test l.invariant.0 a is (sym stood ∙ w.if-stands.true) (small c.before.before))
         | else-stands w ↦ rw (w.force-is, w.sum-is, w.n-is) (summed_out l.invariant.1 test l.invariant.0 a is (sym stood ∙ w.if-stands.false))
       ],
     )

@@ -3,8 +3,8 @@ use Rattle.row_rules.proofs.row_of.Goals as goal
 
 pub returns : goal.returns
 returns c = λ i. record {
-      death = c.word-death.ensures i;
-      withdrawal = c.word-withdrawal.ensures i;
-      disability = c.word-disability.ensures i;
-      weight = c.word-weight.ensures i;
-    }
+  death = c.word-death.ensures i;
+  withdrawal = c.word-withdrawal.ensures i;
+  disability = c.word-disability.ensures i;
+  weight = c.word-weight.ensures i;
+}

@@ -29,21 +29,16 @@ pay_between-requires c = let a = c.args in
     (q.0, omega (arith, q.1), q.2, q.3, q.4, rw (Z_payable a.p.pay (basis a.rows.now a.p.retire a.p.interest)) at (rw c.in-CP.is at c.requires.3))
 
 pub returns-in-AB : goal.returns-in-AB
-returns-in-AB c = let both = (rw c.in-AB.is, as_they_were c.requires.3) in
-    record { value = both.0; filled_columns = both.1.0; columns_kept = both.1.1 }
+returns-in-AB c = record { value = rw c.in-AB.is; filled_columns = (as_they_were c.requires.3).0; columns_kept = (as_they_were c.requires.3).1 }
 
 pub returns-in-BD : goal.returns-in-BD
-returns-in-BD c = let both = (rw c.in-BD.is, as_they_were c.requires.3) in
-    record { value = both.0; filled_columns = both.1.0; columns_kept = both.1.1 }
+returns-in-BD c = record { value = rw c.in-BD.is; filled_columns = (as_they_were c.requires.3).0; columns_kept = (as_they_were c.requires.3).1 }
 
 pub returns-in-BP : goal.returns-in-BP
-returns-in-BP c = let both = (rw c.in-BP.is, as_they_were c.requires.3) in
-    record { value = both.0; filled_columns = both.1.0; columns_kept = both.1.1 }
+returns-in-BP c = record { value = rw c.in-BP.is; filled_columns = (as_they_were c.requires.3).0; columns_kept = (as_they_were c.requires.3).1 }
 
 pub returns-in-CD : goal.returns-in-CD
-returns-in-CD c = let both = let a = c.args in rw (c.in-CD.is, T_payable a.p.pay (basis a.rows.now a.p.retire a.p.interest)) (c.working_between.ensures.value, (c.working_between.ensures.filled_columns, c.working_between.ensures.columns_kept)) in
-    record { value = both.0; filled_columns = both.1.0; columns_kept = both.1.1 }
+returns-in-CD c = let a = c.args in record { value = rw (c.in-CD.is, T_payable a.p.pay (basis a.rows.now a.p.retire a.p.interest)) c.working_between.ensures.value; filled_columns = rw (c.in-CD.is, T_payable a.p.pay (basis a.rows.now a.p.retire a.p.interest)) c.working_between.ensures.filled_columns; columns_kept = c.working_between.ensures.columns_kept }
 
 pub returns-in-CP : goal.returns-in-CP
-returns-in-CP c = let both = let a = c.args in rw (c.in-CP.is, Z_payable a.p.pay (basis a.rows.now a.p.retire a.p.interest)) (c.pay_between.ensures.value, (c.pay_between.ensures.filled_columns, c.pay_between.ensures.columns_kept)) in
-    record { value = both.0; filled_columns = both.1.0; columns_kept = both.1.1 }
+returns-in-CP c = let a = c.args in record { value = rw (c.in-CP.is, Z_payable a.p.pay (basis a.rows.now a.p.retire a.p.interest)) c.pay_between.ensures.value; filled_columns = rw (c.in-CP.is, Z_payable a.p.pay (basis a.rows.now a.p.retire a.p.interest)) c.pay_between.ensures.filled_columns; columns_kept = c.pay_between.ensures.columns_kept }
