@@ -27,7 +27,8 @@ from pathlib import Path
 
 ROOT = Path(__file__).resolve().parent.parent
 WORDS = ROOT / 'bin' / 'refusals.tsv'
-PROGRAM = ROOT / 'target' / 'bin' / 'value'
+CRATE = ROOT / 'crates' / 'value'
+PROGRAM = CRATE / 'out' / 'value'
 # Tells which sources were proved and built, into which program.
 STAMP = ROOT / 'target' / 'value.built'
 
@@ -99,7 +100,10 @@ def sources():
     """Every file of every crate: which of them the program rests on is rt's matter, and rt is quick to tell."""
     yield ROOT / 'crates.txt'
     # By itself os.walk passes over a folder that can't be read.
-    for folder, _, files in sorted(os.walk(ROOT / 'crates', onerror=fail)):
+    for folder, folders, files in os.walk(ROOT / 'crates', onerror=fail):
+        # What rt makes of a crate, in its out/, is no source.
+        made = {'out'} if Path(folder).parent == ROOT / 'crates' else set()
+        folders[:] = sorted(set(folders) - made)
         for path in (os.path.join(folder, file) for file in sorted(files)):
             # An editor may lock a file by a link to nowhere, which is none.
             if os.path.exists(path) or not os.path.islink(path):
@@ -132,13 +136,14 @@ def build():
     if rt is None:
         stop("the program has to be proved and built, and the Rattle toolchain's command rt is not on the PATH")
     say('value: proving and building the program, some minutes the first time ..')
-    run = subprocess.run([rt, 'check', 'value'], cwd=ROOT, stdin=subprocess.DEVNULL, stdout=subprocess.PIPE,
+    # rt builds a program in order to run it: on an empty input, whose answer nobody wants.
+    run = subprocess.run([rt, 'run'], cwd=CRATE, stdin=subprocess.DEVNULL, stdout=subprocess.PIPE,
                          stderr=subprocess.STDOUT)
     if run.returncode != 0:
         say(run.stdout.decode(errors='backslashreplace').rstrip('\n'))
-        stop('the program is not proved and built: rt check value failed')
+        stop('the program is not proved and built: rt run in crates/value failed')
     if not PROGRAM.exists():
-        stop('rt counts the program as built, but it is gone: remove the folder target/ and try again')
+        stop('rt counts the program as built, but it is gone: remove the folder crates/value/out/ and try again')
     STAMP.write_bytes(stamp(digest))
 
 

@@ -45,8 +45,8 @@ def down(number):
 # ---- the limits as they are proved
 
 NUMBER = r'(?:whole (\d+)|(\d+) over (\d+))'
-WEIGHTS = r'(\) ⊗ W c k over W c \(c \.y\))'
-STATED = re.compile(rf'^([VNL])-limit c ?([A-Z]{{2}})?(?: k)? = \(?{NUMBER} ⊕ {NUMBER} ⊗ b c{WEIGHTS}?$', re.MULTILINE)
+WEIGHTS = r'(\) ⊗ W c k over W c c\.y)'
+STATED = re.compile(rf'^([VNL])_limit c ?([A-Z]{{2}})?(?: k)? = \(?{NUMBER} ⊕ {NUMBER} ⊗ b c{WEIGHTS}?$', re.MULTILINE)
 
 
 def ratio(whole, upper, lower):

@@ -1,6 +1,6 @@
 """Amendments that rest on others (rules 2.11 to 2.13): the program test_case_answers held to what is known of each file.
 
-    python3 tests/amendments.py --check    runs target/bin/test_case_answers on every file and compares
+    python3 tests/amendments.py --check    builds and runs crates/test_case_answers on every file and compares
 
 What reading and accepting must say stands beside each file. Which amendments are in force is found here in another way
 than in tests/oracle.py: from the struck ones on, what rests on one that is out goes out too. The additions of the others

@@ -1,7 +1,7 @@
 """The annuity factors of RULES section 8, as tests/oracle.py works them, held to crates/test_annuity_factors.
 
     python3 tests/annuity_factors.py --write    writes stdin and stdout of crates/test_annuity_factors
-    python3 tests/annuity_factors.py --check    runs target/bin/test_annuity_factors on generated tables and compares
+    python3 tests/annuity_factors.py --check    builds and runs crates/test_annuity_factors on generated tables and compares
 
 A case is the interest i, the age r, how often a year a pension is paid, the age e, the payments m, and the rows. It goes
 to the program as bytes, a number's little end first, and the program answers with a line for each of A(15..120),
@@ -9,7 +9,6 @@ G(15..r), T(15..e,e), Z(15..e,e), C(m). It takes any pay that a byte holds, and 
 """
 import random
 import struct
-import subprocess
 import sys
 from itertools import product
 from pathlib import Path
@@ -21,7 +20,7 @@ from oracle import (AGES, FIRST, LAST, MILLION, MONTHLY, NO_PAYS, PAYS, YEARLY, 
 
 ROOT = Path(__file__).parent.parent
 CRATE = ROOT / 'crates' / 'test_annuity_factors'
-PROGRAM = ROOT / 'target' / 'bin' / 'test_annuity_factors'
+PROGRAM = 'test_annuity_factors'
 
 
 class Case:
@@ -125,7 +124,7 @@ def stored():
 def answers(cases):
     """The lines that the program writes for each of these, which it doesn't skip."""
     given = b''.join(case.bytes() for case in cases)
-    lines = subprocess.run([PROGRAM], input=given, stdout=subprocess.PIPE, check=True).stdout.decode().splitlines()
+    lines = commands.said(PROGRAM, given).decode().splitlines()
     if len(lines) != 5 * len(cases):
         sys.exit(f'annuity_factors: the program writes {len(lines)} lines for {len(cases)} cases')
     return [lines[at:at + 5] for at in range(0, len(lines), 5)]
@@ -149,7 +148,7 @@ def check():
     expected += [(f'skipped case {n}', 'skipped') for n in range(len(bad))]
     # The last case lacks a byte, so that it is no case.
     given = b''.join(case.bytes() for case in good + bad + good[:1])[:-1]
-    said = subprocess.run([PROGRAM], input=given, stdout=subprocess.PIPE, check=True).stdout.decode()
+    said = commands.said(PROGRAM, given).decode()
     for (name, line), answer in zip(expected, said.split('\n')):
         if line != answer:
             sys.exit(f'annuity_factors: {name}:\n  {line}\nis expected, and the program writes\n  {answer}')

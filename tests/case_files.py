@@ -1,14 +1,13 @@
 """Case files, good and damaged: the program test_case_answers held to tests/case_oracle.py.
 
     python3 tests/case_files.py --write    writes stdin and stdout of crates/test_case_answers
-    python3 tests/case_files.py --check    runs target/bin/test_case_answers on every file and compares
+    python3 tests/case_files.py --check    builds and runs crates/test_case_answers on every file and compares
 
 A file goes to the program after its length in 4 bytes, the little end first. The program answers with two lines: what
 reading says of it, and what accepting says, with what it hands on.
 """
 import random
 import struct
-import subprocess
 import sys
 from collections import defaultdict
 from itertools import product
@@ -21,7 +20,7 @@ from oracle import AGES, FIRST, LAST, MOST_AMENDMENTS, NO_PAYS, PAYS, level_tabl
 
 ROOT = Path(__file__).parent.parent
 CRATE = ROOT / 'crates' / 'test_case_answers'
-PROGRAM = ROOT / 'target' / 'bin' / 'test_case_answers'
+PROGRAM = 'test_case_answers'
 PRIME = 1000003
 READING = {1, 2, 3, 4, 10, 20, 27, 53}
 ACCEPTING = READING | {11, 12, 14, 15, 21, 22, 23, 24, 25, 28, 29, 54, 55}
@@ -666,7 +665,7 @@ def hold_oracle(name, files):
 
 def hold(name, files):
     """Holds what the program writes to the oracle, and counts the numbers that reading and accepting give."""
-    said = subprocess.run([PROGRAM], input=given(files), stdout=subprocess.PIPE, check=True).stdout.decode().split('\n')
+    said = commands.said(PROGRAM, given(files)).decode().split('\n')
     expected = [line for case in files for line in answers(case)]
     for place, (line, answer) in enumerate(zip(expected, said)):
         if line != answer:

@@ -1,11 +1,10 @@
 """What is printed of a case file into buffers of every length: the program test_case_prints held to tests/value_oracle.py.
 
     python3 tests/case_prints.py --write    writes stdin and stdout of crates/test_case_prints
-    python3 tests/case_prints.py --check    runs target/bin/test_case_prints on files and buffers, and compares
+    python3 tests/case_prints.py --check    builds and runs crates/test_case_prints on files and buffers, and compares
 
 The program answers with a line, and then with the bytes of the buffer and of what follows it (tests/rooms.py).
 """
-import subprocess
 import sys
 from collections import Counter
 from pathlib import Path
@@ -16,7 +15,7 @@ from value_oracle import lines
 
 ROOT = Path(__file__).parent.parent
 CRATE = ROOT / 'crates' / 'test_case_prints'
-PROGRAM = ROOT / 'target' / 'bin' / 'test_case_prints'
+PROGRAM = 'test_case_prints'
 
 
 def answer(case, room):
@@ -47,7 +46,7 @@ def check():
     expected = [((case, room), answer(case, room)) for case, room in cases]
     # The last case lacks a byte, so that it is no case.
     asked = b''.join(given(case, room) for case, room in cases + cases[:1])[:-1]
-    said = subprocess.run([PROGRAM], input=asked, stdout=subprocess.PIPE, check=True).stdout
+    said = commands.said(PROGRAM, asked)
     commands.hold('case_prints', expected, said)
     kinds = Counter(kind(answer) for _, answer in expected)
     if len(kinds) != 3:

@@ -1,7 +1,26 @@
-"""What test programs share: the input and output that a crate stores, written or compared, the two commands, and what a
-program writes, compared and counted."""
+"""What test programs share: the input and output that a crate stores, written or compared, the two commands, what is
+built, and what a program writes, compared and counted."""
+import functools
+import subprocess
 import sys
 from collections import Counter
+from pathlib import Path
+
+BUILD = Path(__file__).parent.parent / 'bin' / 'build'
+
+
+@functools.cache
+def built(name):
+    """The path of a program or of a static library of the repository, once it is proved and built."""
+    ran = subprocess.run([BUILD, name], stdin=subprocess.DEVNULL, stdout=subprocess.PIPE, stderr=subprocess.PIPE, text=True)
+    if ran.returncode:
+        sys.exit(f'{name} is not proved and built\n{ran.stderr}')
+    return ran.stdout.rstrip('\n')
+
+
+def said(name, given):
+    """What a program of the repository writes on this input."""
+    return subprocess.run([built(name)], input=given, stdout=subprocess.PIPE, check=True).stdout
 
 
 def run(name, usage, files, check):

@@ -402,7 +402,7 @@ class Copy:
     def __init__(self, folder):
         self.folder, self.repository, self.calls = folder, folder / 'repository', folder / 'calls'
         self.input = folder / 'input'
-        self.source, self.program = self.repository / 'crates/value/src/main.rt', self.repository / 'target/bin/value'
+        self.source, self.program = self.repository / 'crates/value/src/main.rt', self.repository / 'crates/value/out/value'
         self.command, self.env = self.repository / 'bin/value', with_path(folder / 'path')
         for made in (self.source.parent, self.repository / 'bin', folder / 'path'):
             made.mkdir(parents=True)
@@ -415,7 +415,7 @@ class Copy:
         folder.chmod(0o755)
         self.rt_does('')
 
-    def rt_does(self, more, build='mkdir -p target/bin && cp ../program target/bin/value'):
+    def rt_does(self, more, build='mkdir -p out && cp ../../../program out/value'):
         self.script(self.folder / 'path' / 'rt', f'echo "$PWD $*" >> "{self.calls}"\n{build}\n{more}')
 
     def answers(self, answer, then=''):
@@ -434,7 +434,7 @@ class Copy:
     def hold_calls(self, what, count):
         """So many calls since the last time, each the one that builds the program."""
         calls = self.calls.read_text(encoding='utf-8')
-        if calls != f'{self.repository} check value\n' * count:
+        if calls != f'{self.repository}/crates/value run\n' * count:
             sys.exit(f'desk: {what}: rt is called\n{calls}and should be {count} times')
         self.calls.write_text('')
 
@@ -481,12 +481,14 @@ def check_rebuilt(copy):
     shutil.rmtree(copy.repository / 'target')
     hold_built('target/ is gone', 1)
     hold_built('and is built again', 0)
+    (copy.program.parent / 'incremental').write_text('of rt\n')
+    hold_built('what rt keeps', 0)
 
 
 def check_edit_meanwhile(copy):
     """What is edited while rt runs isn't proved: the next command has rt look again."""
     copy.source.write_text('fn main() { 1; }\n')
-    copy.rt_does('echo "fn main() { 2; }" > crates/value/src/main.rt')
+    copy.rt_does('echo "fn main() { 2; }" > src/main.rt')
     hold('an edit while it is proved', copy.run(stdin=GOOD), 0, GOOD_LINES, BUILDING)
     copy.rt_does('')
     hold('after that edit', copy.run(stdin=GOOD), 0, GOOD_LINES, BUILDING)
@@ -527,11 +529,11 @@ def check_not_built(copy):
     copy.rt_does('echo not proved; echo at all >&2; exit 1', build='')
     for again in ('not proved', 'not proved, once more'):
         hold(again, copy.run('-', 'missing.case', stdin=GOOD), 2, b'',
-             BUILDING + 'not proved\nat all\nvalue: the program is not proved and built: rt check value failed\n')
+             BUILDING + 'not proved\nat all\nvalue: the program is not proved and built: rt run in crates/value failed\n')
     copy.hold_calls('not proved', 2)
-    copy.rt_does('', build='rm -rf target/bin')
+    copy.rt_does('', build='rm -rf out')
     hold('proved, and no program', copy.run(stdin=GOOD), 2, b'',
-         f'{BUILDING}value: rt counts the program as built, but it is gone: remove the folder target/ and try again\n')
+         f'{BUILDING}value: rt counts the program as built, but it is gone: remove the folder crates/value/out/ and try again\n')
     copy.hold_calls('proved, and no program', 1)
     copy.rt_does('')
     crates = copy.repository / 'crates'

@@ -15,8 +15,11 @@ import subprocess
 import sys
 from pathlib import Path
 
+import commands
+
 ROOT = Path(__file__).parent.parent
-ARCHIVES = ROOT / 'target' / 'staticlib'
+# embed/run builds it.
+SHIPPED = ROOT / 'crates' / 'kuyeshan' / 'out' / 'libkuyeshan.a'
 
 # Code with the most divisions on any way through it, or the reason why there is no such number.
 KNOWN = [
@@ -203,12 +206,11 @@ def roundings():
 def check():
     said(ROOT / 'bin' / 'need', 'objdump', 'binutils')
     try_known()
-    said('rt', 'staticlib', 'bench_rounding', cwd=ROOT)
-    exported = functions_of(ARCHIVES / 'libbench_rounding.a')
+    exported = functions_of(commands.built('bench_rounding'))
     hold(exported, 'bench_rounding_rounded_twice', [2])
     for name in roundings():
         hold(exported, f'bench_rounding_{name}', [1])
-    shipped = functions_of(ARCHIVES / 'libkuyeshan.a')
+    shipped = functions_of(SHIPPED)
     alone = [name for name in shipped if name.startswith(('rounding::', 'division::'))]
     for name in alone:
         hold(shipped, name, [0, 1])

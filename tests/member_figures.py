@@ -1,7 +1,7 @@
 """The figures of lone members, handed in as plain values: the program test_member_figures held to tests/oracle.py.
 
     python3 tests/member_figures.py --write    writes stdin and stdout of crates/test_member_figures
-    python3 tests/member_figures.py --check    runs target/bin/test_member_figures on generated members and compares
+    python3 tests/member_figures.py --check    builds and runs crates/test_member_figures on generated members and compares
 
 A case is a plan, its amendments, its rows and a member. It goes to the program as bytes, a number's little end first, with
 room for 22 amendments after their count, and the program answers with three lines: what accepting the plan says, what
@@ -11,7 +11,6 @@ the limits on their distance from the exact fractions (N and L: rule 10.9), each
 """
 import random
 import struct
-import subprocess
 import sys
 from fractions import Fraction
 from itertools import product
@@ -32,7 +31,7 @@ from oracle import (AB, AGES, CAREER, CD, CP, FIGURES, FINAL, FIRST, FLAT, FORMU
 
 ROOT = Path(__file__).parent.parent
 CRATE = ROOT / 'crates' / 'test_member_figures'
-PROGRAM = ROOT / 'target' / 'bin' / 'test_member_figures'
+PROGRAM = 'test_member_figures'
 OF_PLAN = {10, 11, 12, 14, 15, 53, 54, 55}
 REFUSALS = OF_PLAN | {21, 22, 23, 24, 25, 28}
 # How many amendments the program has room for; and what stands where a list has ended: amendments that would be in force,
@@ -593,7 +592,7 @@ def differ(case, expected, said):
 def answers(cases):
     """What the program writes for each. A last case lacks a byte, so that it is no case."""
     given = b''.join(case.bytes() for case in cases) + cases[0].bytes()[:-1]
-    said = subprocess.run([PROGRAM], input=given, stdout=subprocess.PIPE, check=True).stdout.decode()
+    said = commands.said(PROGRAM, given).decode()
     lines = said.split('\n')
     if len(lines) != 3 * len(cases) + 1 or lines.pop() != '':
         sys.exit(f'member_figures: the program writes {said.count(chr(10))} lines for {len(cases)} cases')

@@ -1,6 +1,6 @@
 """One person on several lines (rules 4.7 and 7.10): the program test_case_answers held to what is known of each file.
 
-    python3 tests/persons.py --check    runs target/bin/test_case_answers on every file and compares
+    python3 tests/persons.py --check    builds and runs crates/test_case_answers on every file and compares
 
 The lines of each person come to 1000000.00 and not a cent less, so that the file is accepted, and isn't where two persons
 are taken for one or a line is counted twice; or those of one person come to a cent more, which is refused at its last

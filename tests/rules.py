@@ -5,6 +5,7 @@
 A citation is 'rule 8.3', 'rules 8.4 to 8.7, 9.1 and 9.2', 'RULES section 8' or 'RULES sections 1 to 5 and 12', also
 where it goes on in the next line. It fails where docs/RULES.md has no such rule or section, or has a number twice.
 """
+import os
 import re
 import sys
 from pathlib import Path
@@ -75,8 +76,16 @@ def citations(path):
 
 def files():
     for place in PLACES:
-        paths = [ROOT / place] if (ROOT / place).is_file() else sorted((ROOT / place).rglob('*'))
+        paths = [ROOT / place] if (ROOT / place).is_file() else sorted(below(ROOT / place))
         yield from (path for path in paths if path.suffix in SUFFIXES)
+
+
+def below(place):
+    """The files of a folder. What rt makes of a crate, in its out/, is not the repository's."""
+    for folder, folders, names in os.walk(place):
+        if Path(folder).parent == ROOT / 'crates' and 'out' in folders:
+            folders.remove('out')
+        yield from (Path(folder) / name for name in names)
 
 
 def check():

@@ -1,6 +1,7 @@
 """The model plan of the textbook (Winklevoss, Pension Mathematics, second edition), held to the tables that it prints.
 
-    python3 tests/textbook.py --check     runs value and test_annuity_factors of target/bin, and compares cell by cell
+    python3 tests/textbook.py --check     builds and runs crates/value and crates/test_annuity_factors, and compares cell by
+                                          cell
     python3 tests/textbook.py --oracle    compares what tests/value_oracle.py prints, and the factors of tests/oracle.py
     python3 tests/textbook.py --write     writes examples/textbook.case and its lines
 

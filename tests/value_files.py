@@ -10,7 +10,6 @@ amendments must count by their sum alone (rule 2.13). tests/library_answers.py g
 import argparse
 import random
 import re
-import subprocess
 import sys
 from collections import Counter, defaultdict
 from itertools import zip_longest
@@ -33,7 +32,7 @@ from value_oracle import exact_supplemental, lines, supplemental_limit, valued
 from writing_oracle import Values
 
 ROOT = Path(__file__).parent.parent
-PROGRAM = ROOT / 'target' / 'bin' / 'value'
+PROGRAM = 'value'
 EXAMPLES = ROOT / 'examples'
 # Those with tables that are like real ones. In the short table all live to 65 and nobody longer, and two-spells and amended
 # have the table of final-pay.
@@ -52,7 +51,7 @@ def case_file(plan, rows, members, listed=()):
 
 def answer(case):
     """What the program writes for a file."""
-    return subprocess.run([PROGRAM], input=case, stdout=subprocess.PIPE, check=True).stdout
+    return commands.said(PROGRAM, case)
 
 
 # ---- the cases worked by hand: RULES section 14

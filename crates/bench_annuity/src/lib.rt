@@ -1,7 +1,7 @@
-// What bench/annuity measures: one fill of A and one of Z, exported under C names. A table comes as 424 numbers, the
-// death, withdrawal, disability and weight of each age in turn. An export answers false, and fills nothing, where the
-// table or another argument is not what the annuity functions require; so it requires nothing itself. The program
-// test_annuity_factors tests its tables by `is_table` too.
+// What bench/annuity measures: one fill of A and one of Z, which bench_annuity_c exports under C names. A table comes as
+// 424 numbers, the death, withdrawal, disability and weight of each age in turn. Each answers false, and fills nothing,
+// where the table or another argument is not what the annuity functions require; so it requires nothing itself. The
+// program test_annuity_factors tests its tables by `is_table` too.
 #![tactic(auto)]
 
 ghost use Rattle.std.specs.Prelude.{true, ◌≡◌, ◌+◌, ◌≤◌, length};
@@ -15,13 +15,7 @@ use rates::{AGES, Rows};
 use year_steps::Factors;
 
 // A(k) for each age.
-#[unsafe(no_mangle)]
-pub extern "C" fn bench_annuity_life_annuity(
-    numbers: &[u32],
-    r: usize,
-    i: u64,
-    out: &mut [u64],
-) -> bool
+pub fn bench_annuity_life_annuity(numbers: &[u32], r: usize, i: u64, out: &mut [u64]) -> bool
     ensures { result ≡ true → Filled (Factors-as-A (basis (rows_of numbers.now) r i)) 120 15 out.new }
 {
     if numbers.len() != 424 || out.len() != AGES || i > 2000 {
@@ -36,8 +30,7 @@ pub extern "C" fn bench_annuity_life_annuity(
 }
 
 // Z(k,e) for each age up to e.
-#[unsafe(no_mangle)]
-pub extern "C" fn bench_annuity_pay_annuity(
+pub fn bench_annuity_pay_annuity(
     numbers: &[u32],
     r: usize,
     i: u64,

@@ -7,9 +7,10 @@
 ghost use Rattle.std.specs.Prelude.{true, ◌≡◌, ◌≤◌};
 ghost use Rattle.test_annuity_factors.specs.Question.{Question};
 
-use libc::{STDIN_FILENO, STDOUT_FILENO};
 use rates::Rows;
-use test_support::{byte, rows_at};
+use std::io;
+use std::io::Read;
+use test_support::{byte, fill, rows_at};
 use year_steps::Factors;
 
 // How many bytes a case has.
@@ -19,37 +20,48 @@ const SIZE: usize = 1702;
 const ROWS: usize = 6;
 
 // A proved loop has to end, and nothing says that the input does: no run uses up these turns.
-fn main() {
-    let mut turns = u64::MAX;
-    while turns > 0 && case() {
-        turns -= 1;
+fn main(rt: HostRuntime) -> io::Result<()> {
+    let mut input = rt.reader();
+    for _ in 0..u64::MAX {
+        if !case(&rt, &mut input)? {
+            break;
+        }
     }
+    Ok(())
 }
 
 // Reads a case and answers it. False where the input ends.
-fn case() -> bool {
+fn case(rt: &impl Print, input: &mut impl Read) -> io::Result<bool> {
     let mut bytes = [0u8; SIZE];
-    if io::read_full(STDIN_FILENO, &mut bytes) < SIZE {
-        return false;
+    if !fill(input, &mut bytes)? {
+        return Ok(false);
     }
-    answer(&bytes);
-    true
+    answer(rt, &bytes)?;
+    Ok(true)
 }
 
-fn answer(bytes: &[u8; SIZE]) {
+fn answer(rt: &impl Print, bytes: &[u8; SIZE]) -> io::Result<()> {
     let i = byte(bytes[0]) + 256 * byte(bytes[1]);
     let r = age(bytes[2]);
     let pay = byte(bytes[3]);
     let e = age(bytes[4]);
     let m = byte(bytes[5]);
-    write(rows_at(bytes, ROWS), i, r, pay, e, m);
+    write(rt, rows_at(bytes, ROWS), i, r, pay, e, m)
 }
 
-fn write(rows: Rows, i: u64, r: usize, pay: u64, e: usize, m: u64) {
+fn write(
+    rt: &impl Print,
+    rows: Rows,
+    i: u64,
+    r: usize,
+    pay: u64,
+    e: usize,
+    m: u64,
+) -> io::Result<()> {
     if is_question(rows, i, r, e, m) {
-        factors(rows, i, r, pay, e, m);
+        factors(rt, rows, i, r, pay, e, m)
     } else {
-        io::write_all(STDOUT_FILENO, b"skipped\n");
+        println!(rt; "skipped")
     }
 }
 
@@ -62,32 +74,39 @@ fn is_question(rows: Rows, i: u64, r: usize, e: usize, m: u64) -> bool
     bench_annuity::is_table(rows)
 }
 
-fn factors(rows: Rows, i: u64, r: usize, pay: u64, e: usize, m: u64)
+fn factors(
+    rt: &impl Print,
+    rows: Rows,
+    i: u64,
+    r: usize,
+    pay: u64,
+    e: usize,
+    m: u64,
+) -> io::Result<()>
     requires { Question rows i r e m }
 {
-    line(b"A", annuity::life_annuity(rows, r, i), 120);
-    line(b"G", annuity::deferred_annuity(rows, r, pay, i), r);
-    line(b"T", annuity::working_annuity(rows, r, i, e), e);
-    line(b"Z", annuity::pay_annuity(rows, r, i, e), e);
-    io::write_all(STDOUT_FILENO, b"C");
-    number(annuity::certain_annuity(i, m));
-    io::write_all(STDOUT_FILENO, b"\n");
+    line(rt, "A", annuity::life_annuity(rows, r, i), 120)?;
+    line(rt, "G", annuity::deferred_annuity(rows, r, pay, i), r)?;
+    line(rt, "T", annuity::working_annuity(rows, r, i, e), e)?;
+    line(rt, "Z", annuity::pay_annuity(rows, r, i, e), e)?;
+    print!(rt; "C")?;
+    number(rt, annuity::certain_annuity(i, m))?;
+    println!(rt; "")
 }
 
 // The factors of the ages up to `top`.
-fn line(letter: &[u8], factors: Factors, top: usize)
+fn line(rt: &impl Print, letter: &str, factors: Factors, top: usize) -> io::Result<()>
     requires { top ≤ 120 }
 {
-    io::write_all(STDOUT_FILENO, letter);
+    print!(rt; "{letter}")?;
     for k in 15..=top {
-        number(factors[k - 15]);
+        number(rt, factors[k - 15])?;
     }
-    io::write_all(STDOUT_FILENO, b"\n");
+    println!(rt; "")
 }
 
-fn number(n: u64) {
-    io::write_all(STDOUT_FILENO, b" ");
-    io::print_decimal(STDOUT_FILENO, n);
+fn number(rt: &impl Print, n: u64) -> io::Result<()> {
+    print!(rt; " {n}")
 }
 
 fn age(x: u8) -> usize {

@@ -5,10 +5,11 @@
 #![tactic(auto)]
 
 use casefile::{Accepting, Reading};
-use libc::{STDIN_FILENO, STDOUT_FILENO};
 use plan::{Amendments, MOST_AMENDMENTS, MOST_MEMBERS, Members, Plan};
 use rates::{AGES, Rows};
-use test_support::{next, number_at, refused};
+use std::io;
+use std::io::Read;
+use test_support::{fill, next, number_at, refused};
 
 // The longest file that is tried.
 const SIZE: usize = 70_000;
@@ -17,85 +18,90 @@ const SIZE: usize = 70_000;
 const PRIME: u64 = 1_000_003;
 
 // A proved loop has to end, and nothing says that the input does: no run uses up these turns.
-fn main() {
-    let mut turns = u64::MAX;
-    while turns > 0 && case() {
-        turns -= 1;
+fn main(rt: HostRuntime) -> io::Result<()> {
+    let mut input = rt.reader();
+    for _ in 0..u64::MAX {
+        if !case(&rt, &mut input)? {
+            break;
+        }
     }
+    Ok(())
 }
 
 // Reads a case and answers it. False where the input ends.
-fn case() -> bool {
+fn case(rt: &impl Print, input: &mut impl Read) -> io::Result<bool> {
     let mut length = [0u8; 4];
-    if io::read_full(STDIN_FILENO, &mut length) < 4 {
-        return false;
+    if !fill(input, &mut length)? {
+        return Ok(false);
     }
     let n = number_at(&length, 0) as usize;
     let mut bytes = [0u8; SIZE];
-    of_length(&mut bytes, n)
+    of_length(rt, input, &mut bytes, n)
 }
 
 // A case of n bytes, if there is room.
-fn of_length(room: &mut [u8], n: usize) -> bool {
+fn of_length(
+    rt: &impl Print,
+    input: &mut impl Read,
+    room: &mut [u8],
+    n: usize,
+) -> io::Result<bool> {
     if n > room.len() {
-        return false;
+        return Ok(false);
     }
-    answered(&mut room[..n])
+    answered(rt, input, &mut room[..n])
 }
 
 // A case that fills these bytes.
-fn answered(bytes: &mut [u8]) -> bool {
-    if io::read_full(STDIN_FILENO, bytes) < bytes.len() {
-        return false;
+fn answered(rt: &impl Print, input: &mut impl Read, bytes: &mut [u8]) -> io::Result<bool> {
+    if !fill(input, bytes)? {
+        return Ok(false);
     }
-    reading(bytes);
-    accepting(bytes);
-    true
+    reading(rt, bytes)?;
+    accepting(rt, bytes)?;
+    Ok(true)
 }
 
-fn reading(case: &[u8]) {
+fn reading(rt: &impl Print, case: &[u8]) -> io::Result<()> {
     match casefile::read_case(case) {
-        Reading::Read => {
-            io::write_all(STDOUT_FILENO, b"read\n");
-        }
-        Reading::Refused(number, line) => refused(number, line),
+        Reading::Read => println!(rt; "read"),
+        Reading::Refused(number, line) => refused(rt, number, line),
     }
 }
 
-fn accepting(case: &[u8]) {
+fn accepting(rt: &impl Print, case: &[u8]) -> io::Result<()> {
     let mut amendments = [[0u64; 4]; MOST_AMENDMENTS];
     let mut rows = [[0u32; 4]; AGES];
     let mut members = [[0u64; 5]; MOST_MEMBERS];
     match casefile::accept_case(case, &mut amendments, &mut rows, &mut members) {
         Accepting::Accepted(p, listed, count) => {
-            io::write_all(STDOUT_FILENO, b"accepted=");
-            terms(p);
-            term(listed);
-            io::print_decimal(STDOUT_FILENO, count);
-            next(sum_of_amendments(amendments, listed));
-            next(sum_of_rows(rows));
-            next(sum_of_members(members, count));
-            io::write_all(STDOUT_FILENO, b"\n");
+            print!(rt; "accepted=")?;
+            terms(rt, p)?;
+            term(rt, listed)?;
+            print!(rt; "{count}")?;
+            next(rt, sum_of_amendments(amendments, listed))?;
+            next(rt, sum_of_rows(rows))?;
+            next(rt, sum_of_members(members, count))?;
+            println!(rt; "")
         }
-        Accepting::Refused(number, line) => refused(number, line),
+        Accepting::Refused(number, line) => refused(rt, number, line),
     }
 }
 
-fn terms(p: Plan) {
-    term(p.interest);
-    term(p.retire);
-    term(p.pay);
-    term(p.formula);
-    term(p.unit);
-    term(p.average);
-    term(p.method);
-    term(p.assets);
-    term(p.years);
+fn terms(rt: &impl Print, p: Plan) -> io::Result<()> {
+    term(rt, p.interest)?;
+    term(rt, p.retire)?;
+    term(rt, p.pay)?;
+    term(rt, p.formula)?;
+    term(rt, p.unit)?;
+    term(rt, p.average)?;
+    term(rt, p.method)?;
+    term(rt, p.assets)?;
+    term(rt, p.years)
 }
 
-fn term(number: u64) {
-    io::print_decimal(STDOUT_FILENO, number);
-    io::write_all(STDOUT_FILENO, b",");
+fn term(rt: &impl Print, number: u64) -> io::Result<()> {
+    print!(rt; "{number},")
 }
 
 // The sum so far, with one number more.

@@ -5,8 +5,9 @@
 #![tactic(auto)]
 
 use fitting::Answer;
-use libc::{STDIN_FILENO, STDOUT_FILENO};
-use test_support::{number_at, refused};
+use std::io;
+use std::io::Read;
+use test_support::{fill, number_at, refused};
 use valuation::print_case;
 
 // The longest file that is tried.
@@ -19,66 +20,78 @@ const AFTER: usize = 16;
 const ROOM: usize = 70_000;
 
 // A proved loop has to end, and nothing says that the input does: no run uses up these turns.
-fn main() {
-    let mut turns = u64::MAX;
-    while turns > 0 && case() {
-        turns -= 1;
+fn main(rt: HostRuntime) -> io::Result<()> {
+    let mut input = rt.reader();
+    for _ in 0..u64::MAX {
+        if !case(&rt, &mut input)? {
+            break;
+        }
     }
+    Ok(())
 }
 
 // Reads a case and answers it. False where the input ends.
-fn case() -> bool {
+fn case(rt: &impl Print, input: &mut impl Read) -> io::Result<bool> {
     let mut lengths = [0u8; 8];
-    if io::read_full(STDIN_FILENO, &mut lengths) < 8 {
-        return false;
+    if !fill(input, &mut lengths)? {
+        return Ok(false);
     }
     let n = number_at(&lengths, 0) as usize;
     let room = number_at(&lengths, 4) as usize;
     let mut bytes = [0u8; LARGEST];
     let mut out = [165u8; ROOM];
-    of_length(&mut bytes, n, &mut out, room + AFTER)
+    of_length(rt, input, &mut bytes, n, &mut out, room + AFTER)
 }
 
 // A case of n bytes, if there is room. The buffer and what follows it end at `end`.
-fn of_length(bytes: &mut [u8], n: usize, out: &mut [u8], end: usize) -> bool {
+fn of_length(
+    rt: &impl Print,
+    input: &mut impl Read,
+    bytes: &mut [u8],
+    n: usize,
+    out: &mut [u8],
+    end: usize,
+) -> io::Result<bool> {
     if n > bytes.len() {
-        return false;
+        return Ok(false);
     }
-    filled(&mut bytes[..n], out, end)
+    filled(rt, input, &mut bytes[..n], out, end)
 }
 
 // A case that fills these bytes.
-fn filled(case: &mut [u8], out: &mut [u8], end: usize) -> bool {
-    if io::read_full(STDIN_FILENO, case) < case.len() {
-        return false;
+fn filled(
+    rt: &impl Print,
+    input: &mut impl Read,
+    case: &mut [u8],
+    out: &mut [u8],
+    end: usize,
+) -> io::Result<bool> {
+    if !fill(input, case)? {
+        return Ok(false);
     }
-    within(case, out, end)
+    within(rt, case, out, end)
 }
 
-fn within(case: &[u8], out: &mut [u8], end: usize) -> bool {
+fn within(rt: &impl Print, case: &[u8], out: &mut [u8], end: usize) -> io::Result<bool> {
     if end > out.len() {
-        return false;
+        return Ok(false);
     }
-    answered(case, &mut out[..end])
+    answered(rt, case, &mut out[..end])
 }
 
-fn answered(case: &[u8], out: &mut [u8]) -> bool {
+fn answered(rt: &impl Print, case: &[u8], out: &mut [u8]) -> io::Result<bool> {
     if out.len() < AFTER {
-        return false;
+        return Ok(false);
     }
     let room = out.len() - AFTER;
-    answer(print_case(case, &mut out[..room]));
-    io::write_all(STDOUT_FILENO, out);
-    true
+    answer(rt, print_case(case, &mut out[..room]))?;
+    rt.write_all(out)?;
+    Ok(true)
 }
 
-fn answer(said: Answer) {
+fn answer(rt: &impl Print, said: Answer) -> io::Result<()> {
     match said {
-        Answer::Written(n) => {
-            io::write_all(STDOUT_FILENO, b"written=");
-            io::print_decimal(STDOUT_FILENO, n as u64);
-            io::write_all(STDOUT_FILENO, b"\n");
-        }
-        Answer::Refused(number, line) => refused(number, line),
+        Answer::Written(n) => println!(rt; "written={n}"),
+        Answer::Refused(number, line) => refused(rt, number, line),
     }
 }

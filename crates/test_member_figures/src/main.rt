@@ -11,9 +11,10 @@ ghost use Rattle.std.specs.Prelude.{◌+◌, ◌≤◌, ◌<◌};
 
 use acceptance::{Acceptance, accept_member, accept_plan};
 use costs::{Figures, Valuation};
-use libc::{STDIN_FILENO, STDOUT_FILENO};
 use plan::{Member, Plan};
-use test_support::{next, number_at, refused, rows_at};
+use std::io;
+use std::io::Read;
+use test_support::{fill, next, number_at, refused, rows_at};
 
 // How many bytes a case has.
 const SIZE: usize = 2520;
@@ -33,60 +34,65 @@ const ROWS: usize = 784;
 const MEMBER: usize = 2480;
 
 // A proved loop has to end, and nothing says that the input does: no run uses up these turns.
-fn main() {
-    let mut turns = u64::MAX;
-    while turns > 0 && case() {
-        turns -= 1;
+fn main(rt: HostRuntime) -> io::Result<()> {
+    let mut input = rt.reader();
+    for _ in 0..u64::MAX {
+        if !case(&rt, &mut input)? {
+            break;
+        }
     }
+    Ok(())
 }
 
 // Reads a case and answers it. False where the input ends.
-fn case() -> bool {
+fn case(rt: &impl Print, input: &mut impl Read) -> io::Result<bool> {
     let mut bytes = [0u8; SIZE];
-    if io::read_full(STDIN_FILENO, &mut bytes) < SIZE {
-        return false;
+    if !fill(input, &mut bytes)? {
+        return Ok(false);
     }
     let list = amendments_of(&bytes);
-    listed(&bytes, &list, long_at(&bytes, COUNT) as usize)
+    listed(rt, &bytes, &list, long_at(&bytes, COUNT) as usize)
 }
 
 // A case with so many amendments, if there are places for them.
-fn listed(bytes: &[u8; SIZE], list: &[[u64; 4]], count: usize) -> bool {
+fn listed(
+    rt: &impl Print,
+    bytes: &[u8; SIZE],
+    list: &[[u64; 4]],
+    count: usize,
+) -> io::Result<bool> {
     if count > list.len() {
-        return false;
+        return Ok(false);
     }
-    answer(bytes, &list[..count]);
-    true
+    answer(rt, bytes, &list[..count])?;
+    Ok(true)
 }
 
-fn answer(bytes: &[u8; SIZE], amendments: &[[u64; 4]]) {
+fn answer(rt: &impl Print, bytes: &[u8; SIZE], amendments: &[[u64; 4]]) -> io::Result<()> {
     let p = plan_of(bytes);
     let rows = rows_at(bytes, ROWS);
     let m = member_of(bytes);
-    accepting(accept_plan(p, amendments, rows));
-    accepting(accept_member(p, amendments, rows, m));
+    accepting(rt, accept_plan(p, amendments, rows))?;
+    accepting(rt, accept_member(p, amendments, rows, m))?;
     match plain_engine::value_member(p, amendments, rows, m) {
-        Valuation::Valued(f) => figures(f),
-        Valuation::Refused(number, line) => refused(number, line),
+        Valuation::Valued(f) => figures(rt, f),
+        Valuation::Refused(number, line) => refused(rt, number, line),
     }
 }
 
-fn accepting(answer: Acceptance) {
+fn accepting(rt: &impl Print, answer: Acceptance) -> io::Result<()> {
     match answer {
-        Acceptance::Accepted => {
-            io::write_all(STDOUT_FILENO, b"accepted\n");
-        }
-        Acceptance::Refused(number, line) => refused(number, line),
+        Acceptance::Accepted => println!(rt; "accepted"),
+        Acceptance::Refused(number, line) => refused(rt, number, line),
     }
 }
 
-fn figures(f: Figures) {
-    io::write_all(STDOUT_FILENO, b"figures=");
-    io::print_decimal(STDOUT_FILENO, f.benefit);
-    next(f.value);
-    next(f.cost);
-    next(f.liability);
-    io::write_all(STDOUT_FILENO, b"\n");
+fn figures(rt: &impl Print, f: Figures) -> io::Result<()> {
+    print!(rt; "figures={}", f.benefit)?;
+    next(rt, f.value)?;
+    next(rt, f.cost)?;
+    next(rt, f.liability)?;
+    println!(rt; "")
 }
 
 fn plan_of(bytes: &[u8; SIZE]) -> Plan {

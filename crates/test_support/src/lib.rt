@@ -1,10 +1,26 @@
-// What the test programs share: numbers and rows out of bytes, a number's little end first, and the line of a refusal.
+// What the test programs share: bytes from the input, numbers and rows out of bytes, a number's little end first, and the
+// line of a refusal.
 #![tactic(auto)]
 
 ghost use Rattle.std.specs.Prelude.{◌+◌, ◌≤◌, ◌<◌, length};
 
-use libc::STDOUT_FILENO;
 use rates::{AGES, Rows};
+use std::io;
+use std::io::{ErrorKind, Read};
+
+// Fills `bytes` from the input. False where the input ends before.
+pub fn fill(input: &mut impl Read, bytes: &mut [u8]) -> io::Result<bool> {
+    match input.read_exact(bytes) {
+        Ok(()) => Ok(true),
+        Err(e) => {
+            if e.kind() == ErrorKind::UnexpectedEof {
+                Ok(false)
+            } else {
+                Err(e)
+            }
+        }
+    }
+}
 
 // A table of rates from a place on: of each age 15 to 120 its four numbers.
 pub fn rows_at(bytes: &[u8], at: usize) -> Rows
@@ -43,15 +59,11 @@ pub fn byte(x: u8) -> u64
 }
 
 // Writes one more number of a line.
-pub fn next(number: u64) {
-    io::write_all(STDOUT_FILENO, b",");
-    io::print_decimal(STDOUT_FILENO, number);
+pub fn next(rt: &impl Print, number: u64) -> io::Result<()> {
+    print!(rt; ",{number}")
 }
 
 // Writes the line of a refusal.
-pub fn refused(number: u64, line: u64) {
-    io::write_all(STDOUT_FILENO, b"refused=");
-    io::print_decimal(STDOUT_FILENO, number);
-    next(line);
-    io::write_all(STDOUT_FILENO, b"\n");
+pub fn refused(rt: &impl Print, number: u64, line: u64) -> io::Result<()> {
+    println!(rt; "refused={number},{line}")
 }
