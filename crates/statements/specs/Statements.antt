@@ -111,7 +111,7 @@ Independence =
     (s s' out out' : List ℕ) (room room' j j' : ℕ) (c : Case) → accepting_of s ≡ values c → valued_of room s ≡ values out → valued_of room' s' ≡ values out'
     → Agreeing (length c.amends) s s' j j' → line_at (1 + j) out ≡ line_at (1 + j') out'
 
--- ---- amendments that add nothing (rule 2.13); of a refusal after them see No-Additions-Move in walk/specs/Answers.antt
+-- ---- amendments that add nothing (rule 2.13); of a refusal after them see NoAdditionsMove in walk/specs/Answers.antt
 -- in a file, from the state after the list on: after the same terms and before the same bytes, whose first line is no amendment's, such a list changes
 -- no byte that is printed
 abbrev pub NoAdditionsPrint : Type 0

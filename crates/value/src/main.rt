@@ -35,8 +35,8 @@ fn read_full(input: &mut impl Read, case: &mut [u8]) -> io::Result<usize>
     ensures { IfOk result (λ n. n ≤ length case.new) }
 {
     let mut done = 0;
-    // A proved loop has to end, and nothing says that the input does: no run uses up these turns.
-    for _ in 0..u64::MAX {
+    // Each turn reads a byte at least, or is the last: as many turns as there are places are enough.
+    for _ in 0..case.len() {
         if done >= case.len() {
             break;
         }
