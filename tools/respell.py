@@ -1,7 +1,7 @@
 #!/usr/bin/env python3
 """Brings this repository's own names in specs/, proofs/ and contracts to the spelling of today's Rattle.
 
-usage: python3 tools/respell.py [--dry]      at the top, once, right after /opt/rattle/port/port.py
+usage: python3 tools/respell.py [--dry]      at the top, once, right after the port.py of the kit
 
 A word is in snake case (fieldOf and field-of become field_of), a type in upper camel case (Half-Even becomes HalfEven), a prime is an apostrophe.
 Changed are names that a file of specs/ or proofs/ declares or binds; functions of src/, what a check makes, the library's names, strings, inputs and
