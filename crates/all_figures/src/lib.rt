@@ -18,14 +18,7 @@ pub fn member_at(members: &Members, j: usize) -> Member
     requires { j < most_members }
     ensures { result ≡ member_at members.now j }
 {
-    let m = members[j];
-    Member {
-        id: m[0],
-        person: m[1],
-        entry: m[2],
-        age: m[3],
-        salary: m[4],
-    }
+    Member::from(members[j])
 }
 
 // The figures of member j.

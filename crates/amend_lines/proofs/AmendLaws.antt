@@ -16,9 +16,9 @@ use Rattle.fields.proofs.AnswerLaws.{GoodLine, is_good, is_wrong, is_cut, Answer
 use Rattle.plan.specs.declared.Plan.{Plan}
 use Rattle.plan.specs.declared.Amendment.{Amendment}
 use Rattle.rules.specs.Rules.{first_among}
-use Rattle.rules.specs.Heading.{plan_from}
+use Rattle.plan.specs.Numbers.{plan_from, amendment_from, fields_of}
 use Rattle.rules.proofs.RuleLaws.{all_kept}
-use Rattle.amendments.specs.Force.{amendment_from, amendments_from, fields_of}
+use Rattle.amendments.specs.Force.{amendments_from}
 use Rattle.amendments.specs.Judging.{most_amendments, field_refusal, amendment_refusal, unit_refusal, each_refusal}
 use Rattle.amendments.proofs.Keeping.{kept_list}
 use Rattle.walk.specs.Outcome.{refusal, settled}

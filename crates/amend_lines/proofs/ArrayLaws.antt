@@ -5,7 +5,8 @@ use mathlib.Core.List.{List, [], ◌∷◌, ◌++◌, map, map-append}
 use lib.ListN.{length, take, set, replicate, length-map}
 use native.Mathlib.Omega.{arith}
 use Rattle.plan.specs.declared.Amendment.{Amendment}
-use Rattle.amendments.specs.Force.{amendments_from, fields_of}
+use Rattle.plan.specs.Numbers.{fields_of}
+use Rattle.amendments.specs.Force.{amendments_from}
 use Rattle.amendments.specs.Judging.{most_amendments}
 use Rattle.stretches.specs.Arrays.{filled}
 use Rattle.stretches.proofs.ArrayLaws.{filled_next, filled_front, filled_size}

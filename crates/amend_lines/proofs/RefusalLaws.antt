@@ -13,7 +13,8 @@ use Rattle.plan.specs.declared.Plan.{Plan}
 use Rattle.plan.specs.declared.Amendment.{Amendment}
 use Rattle.rules.specs.Rules.{first_among}
 use Rattle.rules.proofs.RuleLaws.{first_refuses, first_passes, first_alone}
-use Rattle.amendments.specs.Force.{amendment_from, amendments_from, fields_of}
+use Rattle.plan.specs.Numbers.{amendment_from, fields_of}
+use Rattle.amendments.specs.Force.{amendments_from}
 use Rattle.amendments.specs.Judging.{most_amendments, field_refusal, amendment_refusal, unit_refusal, each_refusal}
 use Rattle.walk.specs.Outcome.{settled}
 use Rattle.walk.proofs.StepLaws.{each_next}

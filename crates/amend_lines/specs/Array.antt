@@ -1,7 +1,7 @@
 -- The array of the amendments: an enum holds no array.
 use Rattle.std.specs.Prelude.{ℕ, List, map, replicate}
 use Rattle.plan.specs.declared.Amendment.{Amendment}
-use Rattle.amendments.specs.Force.{fields_of}
+use Rattle.plan.specs.Numbers.{fields_of}
 use Rattle.amendments.specs.Judging.{most_amendments}
 use Rattle.stretches.specs.Arrays.{filled}
 

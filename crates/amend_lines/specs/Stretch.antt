@@ -4,7 +4,7 @@ use Rattle.plan.specs.declared.Plan.{Plan}
 use Rattle.plan.specs.declared.Amendment.{Amendment}
 use Rattle.rules.specs.Refusals.{wrong_amendment}
 use Rattle.rules.specs.Rules.{first_among}
-use Rattle.rules.specs.Heading.{plan_from}
+use Rattle.plan.specs.Numbers.{plan_from}
 use Rattle.amendments.specs.Judging.{most_amendments, field_refusal, amendment_refusal, unit_refusal, amendments_refusal}
 use Rattle.walk.specs.Outcome.{refusal, settled}
 use Rattle.walk.specs.Step.{headed, amending, table}

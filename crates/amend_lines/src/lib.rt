@@ -5,7 +5,8 @@ ghost use Rattle.std.specs.Prelude.{◌≡◌, true, cond, [], ℕ, ◌≤◌, l
 ghost use Rattle.fields.specs.declared.Line.TheVariants.{Good};
 ghost use Rattle.fields.specs.Split.{upto_of};
 ghost use Rattle.fields.specs.Values.{Held, line_of};
-ghost use Rattle.amendments.specs.Force.{amendment_from, amendments_from, fields_of};
+ghost use Rattle.plan.specs.Numbers.{amendment_from, fields_of};
+ghost use Rattle.amendments.specs.Force.{amendments_from};
 ghost use Rattle.amendments.specs.Judging.{most_amendments, amendment_refusal, unit_refusal, each_refusal};
 ghost use Rattle.walk.specs.Outcome.{settled};
 ghost use Rattle.walk.specs.Lines.{amend_form, begins as Lines·begins};

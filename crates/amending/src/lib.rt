@@ -5,7 +5,8 @@
 ghost use Rattle.std.specs.Prelude.{◌≡◌, ◌&&◌, ◌||◌, [], ◌<◌, length, get_or, ltb, eqb};
 ghost use Rattle.rules.specs.Refusals.{wrong_amendment, unlisted_rest};
 ghost use Rattle.rules.specs.Rules.{unless as Rules·unless};
-ghost use Rattle.amendments.specs.Force.{amendment_from, amendments_from, in_force, as_valued};
+ghost use Rattle.plan.specs.Numbers.{amendment_from};
+ghost use Rattle.amendments.specs.Force.{amendments_from, in_force, as_valued};
 ghost use Rattle.amendments.specs.Force.{listed as Force·listed, stands as Force·stands, additions as Force·additions};
 ghost use Rattle.amendments.specs.Judging.{most_amendments, last_number, field_refusal, amendment_refusal, unit_refusal, each_refusal, amendments_refusal};
 

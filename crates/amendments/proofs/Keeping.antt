@@ -14,7 +14,8 @@ use Rattle.plan.specs.declared.Amendment.{Amendment}
 use Rattle.rules.specs.Rules.{unless, between}
 use Rattle.rules.specs.Heading.{unit_most}
 use Rattle.rules.proofs.RuleLaws.{all_kept, kept_all, kept, both_true, either_true, between_true}
-use Rattle.amendments.specs.Force.{amendment_from, amendments_from, listed, in_force_after, in_force, additions, unit_valued}
+use Rattle.plan.specs.Numbers.{amendment_from}
+use Rattle.amendments.specs.Force.{amendments_from, listed, in_force_after, in_force, additions, unit_valued}
 use Rattle.amendments.specs.Judging.{most_amendments, last_number, amendment_rules, amendment_refusal, unit_refusal, each_refusal, amendments_refusal}
 use Rattle.amendments.specs.Statements.{In, Keeps, AcceptedListKeeps}
 use Rattle.amendments.proofs.ListLaws.{at, before}

@@ -1,20 +1,14 @@
 -- Amendments, rules 2.11 to 2.13: which of a list are in force, and the plan as it is valued. Nothing after acceptance knows of amendments but through
 -- `as_valued`.
-use Rattle.std.specs.Prelude.{◌≡◌, refl, Bool, true, false, cond, ◌&&◌, ◌||◌, List, [], ◌∷◌, ◌++◌, map, ℕ, ◌+◌, get_or, eqb}
+use Rattle.std.specs.Prelude.{◌≡◌, refl, Bool, true, false, cond, ◌&&◌, ◌||◌, List, [], ◌∷◌, ◌++◌, map, ℕ, ◌+◌, eqb}
 use Rattle.rates.specs.ByHand.{Figure, ◌is◌, all_are}
 use Rattle.plan.specs.declared.Plan.{Plan}
 use Rattle.plan.specs.declared.Amendment.{Amendment}
+use Rattle.plan.specs.Numbers.{amendment_from}
 
--- rules 2.11 and 5.6, the four numbers of an amendment: its own, the one that it rests on, its addition, and 1 where it is struck
-abbrev pub amendment_from : List ℕ → Amendment
-amendment_from vs = record { number = get_or vs 0 0; rests = get_or vs 1 0; add = get_or vs 2 0; struck = get_or vs 3 0 }
-
+-- rules 2.11 and 5.6: amendments handed in as plain values, four numbers each
 abbrev pub amendments_from : List (List ℕ) → List Amendment
 amendments_from = map amendment_from
-
--- and the numbers back
-abbrev pub fields_of : Amendment → List ℕ
-fields_of a = a.number ∷ a.rests ∷ a.add ∷ a.struck ∷ []
 
 -- one of some amendments has this number
 unfoldable pub listed : ℕ → List Amendment → Bool

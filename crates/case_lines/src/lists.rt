@@ -3,7 +3,8 @@ ghost use Rattle.std.specs.Prelude.{[], ◌∷◌, ◌++◌, map, ◌+◌, ◌^�
 ghost use Rattle.rates.specs.Table.{first_age};
 ghost use Rattle.amendments.specs.Force.{amendments_from};
 ghost use Rattle.amendments.specs.Judging.{most_amendments};
-ghost use Rattle.walk.specs.Lines.{most_members, member_from};
+ghost use Rattle.plan.specs.Numbers.{member_from};
+ghost use Rattle.walk.specs.Lines.{most_members};
 ghost use Rattle.printing.specs.Amounts.{whole_number};
 ghost use Rattle.printing.specs.Puts.{Puts};
 ghost use Rattle.written.specs.Written.{with_commas, amendment_line, row_line, row_lines, member_line, closed_lines};

@@ -4,7 +4,7 @@ use mathlib.Core.List.{List, [], ◌∷◌, ◌++◌}
 use mathlib.Core.Logic.{◌↔◌}
 use native.Mathlib.Omega.{arith}
 use Rattle.plan.specs.declared.Member.{Member}
-use Rattle.rules.specs.Heading.{terms_of}
+use Rattle.plan.specs.Numbers.{terms_of}
 use Rattle.walk.specs.Step.{Head, plan_in, refusal_after}
 use Rattle.walk.specs.Kept.{EachAfter}
 use Rattle.walk.proofs.Accepted.{both, members_kept}

@@ -18,7 +18,7 @@ use Rattle.persons.specs.Held.{held}
 use Rattle.persons.specs.Search.{Rooted}
 use Rattle.persons.proofs.HeldLaws.{held_zeros}
 use Rattle.persons.proofs.LineLaws.{rooted_none}
-use Rattle.walk.specs.Lines.{member_from}
+use Rattle.plan.specs.Numbers.{member_from}
 use Rattle.walk.specs.Step.{last_id}
 use Rattle.walk.specs.Kept.{nobody}
 use Rattle.walk.proofs.StepLaws.{last_id_lem}

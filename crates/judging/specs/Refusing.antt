@@ -6,7 +6,8 @@ use Rattle.rules.specs.Refusals.{surplus_member}
 use Rattle.rules.specs.Rules.{unless, first_among}
 use Rattle.amendments.specs.Force.{amendments_from}
 use Rattle.rule_order.specs.Acceptance.{amended_refusal, person_sum, line_refusal}
-use Rattle.walk.specs.Lines.{most_members, member_from}
+use Rattle.plan.specs.Numbers.{member_from}
+use Rattle.walk.specs.Lines.{most_members}
 use Rattle.walk.specs.Step.{last_id}
 use Rattle.walk.specs.Walk.{Case, valued_plan}
 

@@ -4,7 +4,8 @@
 
 ghost use Rattle.std.specs.Prelude.{◌≡◌, [], map, ◌≤◌, ◌<◌, length, get_or};
 ghost use Rattle.rule_order.specs.Acceptance.{plan_refusal};
-ghost use Rattle.walk.specs.Lines.{most_members, member_from};
+ghost use Rattle.plan.specs.Numbers.{member_from};
+ghost use Rattle.walk.specs.Lines.{most_members};
 ghost use Rattle.judging.specs.Refusing.{plain_case, members_refusal, case_refusal};
 
 use acceptance::plan_refusal;

@@ -4,7 +4,7 @@
 #![tactic(auto)]
 
 ghost use Rattle.std.specs.Prelude.{◌≡◌, false, length};
-ghost use Rattle.rules.specs.Heading.{plan_from};
+ghost use Rattle.plan.specs.Numbers.{plan_from, member_from};
 ghost use Rattle.amendments.specs.Force.{amendments_from};
 ghost use Rattle.walk.specs.Walk.{walk_of};
 ghost use Rattle.casefile.specs.Answers.{accepting_of};
@@ -15,7 +15,6 @@ ghost use Rattle.fitting.specs.Fitting.{fitting, buffer};
 ghost use Rattle.valuation.specs.Answers.{valued_of};
 ghost use Rattle.writer.specs.Files.{file_of};
 ghost use Rattle.answer_numbers.specs.Answers.{number_of, line_number_of, written_of};
-ghost use Rattle.walk.specs.Lines.{member_from};
 ghost use Rattle.answer_numbers.specs.Values.{refused_by, figures_after};
 
 use casefile::{Accepting, Reading};

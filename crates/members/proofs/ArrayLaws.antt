@@ -5,10 +5,11 @@ use mathlib.Core.List.{List, [], ◌∷◌, ◌++◌, map, map-append}
 use lib.ListN.{length, get_or, set, replicate, length-map}
 use native.Mathlib.Omega.{arith}
 use Rattle.plan.specs.declared.Member.{Member}
-use Rattle.walk.specs.Lines.{most_members, member_from}
+use Rattle.plan.specs.Numbers.{member_from, numbers_of}
+use Rattle.walk.specs.Lines.{most_members}
 use Rattle.walk.specs.Kept.{nobody}
 use Rattle.stretches.proofs.ArrayLaws.{filled_next, filled_at}
-use Rattle.members.specs.Array.{numbers_of, array_of, member_at}
+use Rattle.members.specs.Array.{array_of, member_at}
 
 pub array_next : (l : List Member) (m : Member) {j : ℕ} → length l ≡ j → set (array_of l) j (numbers_of m) ≡ array_of (l ++ m ∷ [])
 unfolding array_of

@@ -20,7 +20,8 @@ use Rattle.persons.specs.Search.{Rooted}
 use Rattle.persons.proofs.HeldLaws.{held_zeros}
 use Rattle.persons.proofs.LineLaws.{rooted_none}
 use Rattle.walk.specs.Outcome.{values as held-values, refusal, settled}
-use Rattle.walk.specs.Lines.{Tail, most_members, member_from, tail_of}
+use Rattle.plan.specs.Numbers.{member_from, numbers_of}
+use Rattle.walk.specs.Lines.{Tail, most_members, tail_of}
 use Rattle.walk.specs.Step.{Head, people, ended, wrong, right, last_id, refusal_after, tail_line, verdict_of, step}
 use Rattle.walk.specs.Walk.{case_of, walk_from}
 use Rattle.walk.proofs.OutcomeLaws.{settled_none}
@@ -32,7 +33,7 @@ use Rattle.tails.specs.declared.Kind.TheVariants.{Listed, End, Surplus, Neither,
 use Rattle.members.specs.declared.Count.{Count}
 use Rattle.members.specs.declared.Count.TheVariants.{Counted, Refused}
 use Rattle.stretches.specs.Arrays.{filled}
-use Rattle.members.specs.Array.{numbers_of, array_of}
+use Rattle.members.specs.Array.{array_of}
 use Rattle.tails.specs.Tails.{kind_of, TailHeld}
 use Rattle.members.specs.Stretch.{SameHead, MembersAre, end_count}
 use Rattle.tails.proofs.LineLaws.{tail_cut, tail_surplus, tail_neither, tail_listed, tail_end}

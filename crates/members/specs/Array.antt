@@ -1,12 +1,9 @@
 -- The array of the members: an enum holds no array.
-use Rattle.std.specs.Prelude.{ℕ, List, [], ◌∷◌, map, get_or, replicate}
+use Rattle.std.specs.Prelude.{ℕ, List, [], map, get_or, replicate}
 use Rattle.plan.specs.declared.Member.{Member}
-use Rattle.walk.specs.Lines.{most_members, member_from}
+use Rattle.plan.specs.Numbers.{member_from, numbers_of}
+use Rattle.walk.specs.Lines.{most_members}
 use Rattle.stretches.specs.Arrays.{filled}
-
--- rule 4.1: the numbers of a member, as a member line has them
-abbrev pub numbers_of : Member → List ℕ
-numbers_of m = m.id ∷ m.person ∷ m.entry ∷ m.age ∷ m.salary ∷ []
 
 -- the array of up to 1,000 members: their numbers from place 0 on and zeros after
 unfoldable pub array_of : List Member → List (List ℕ)

@@ -6,6 +6,7 @@
 #![tactic(auto)]
 
 pub mod benefit;
+pub mod numbers;
 
 // Rule 2.4: how the benefit accrues.
 #[derive(Clone, Copy)]

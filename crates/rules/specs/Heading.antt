@@ -1,6 +1,7 @@
 -- The terms of a plan and their rules, RULES section 2. Cents for money.
 use Rattle.std.specs.Prelude.{cond, ◌||◌, List, [], ◌∷◌, ◌++◌, ℕ, get_or, leb, eqb}
 use Rattle.plan.specs.declared.Plan.{Plan}
+use Rattle.plan.specs.Numbers.{terms_of}
 use Rattle.rules.specs.Refusals.{plan_form, out_of_range, wrong_average}
 use Rattle.rules.specs.Rules.{unless, between}
 
@@ -66,26 +67,6 @@ term_rules =
 -- the rule of the term with so many before it; past the last there is none to break
 abbrev pub term_rule : ℕ → TermRule
 term_rule k = get_or term_rules k (λ before v. 0)
-
--- the terms of a plan, in the order of the lines
-abbrev pub terms_of : Plan → List ℕ
-terms_of p =
-    p.interest ∷ p.retire ∷ p.pay ∷ p.formula ∷ p.unit ∷ p.average ∷ p.method ∷ p.assets ∷ p.years ∷ []
-
--- and the plan of some terms
-abbrev pub plan_from : List ℕ → Plan
-plan_from t =
-    record {
-      interest = get_or t 0 0;
-      retire = get_or t 1 0;
-      pay = get_or t 2 0;
-      formula = get_or t 3 0;
-      unit = get_or t 4 0;
-      average = get_or t 5 0;
-      method = get_or t 6 0;
-      assets = get_or t 7 0;
-      years = get_or t 8 0;
-    }
 
 -- each by its rule
 abbrev pub ruled : List TermRule → (before terms : List ℕ) → List ℕ

@@ -1,7 +1,8 @@
 // The terms of a plan in the order of the heading's lines (rule 2.1), the rule of each, and their order.
 ghost use Rattle.std.specs.Prelude.{◌≡◌, [], length};
 ghost use Rattle.rules.specs.Rules.{first_among};
-ghost use Rattle.rules.specs.Heading.{pay_rule, unit_most, unit_rule, average_rule, term_rule, term_rules, terms_of, plan_from, ruled, head_rules};
+ghost use Rattle.plan.specs.Numbers.{terms_of, plan_from};
+ghost use Rattle.rules.specs.Heading.{pay_rule, unit_most, unit_rule, average_rule, term_rule, term_rules, ruled, head_rules};
 
 use crate::refusals::{OUT_OF_RANGE, PLAN_FORM, WRONG_AVERAGE};
 use crate::{either, unless, unless_between};

@@ -17,7 +17,7 @@ use Rattle.plan.specs.declared.Amendment.{Amendment}
 use Rattle.plan.specs.declared.Member.{Member}
 use Rattle.rates.specs.Table.{ages}
 use Rattle.rules.specs.Refusals.{too_large, wrong_count, wrong_amendment}
-use Rattle.amendments.specs.Force.{amendment_from}
+use Rattle.plan.specs.Numbers.{amendment_from}
 use Rattle.amendments.specs.Judging.{most_amendments, field_refusal}
 use Rattle.walk.specs.Outcome.{values, refusal}
 use Rattle.walk.specs.Lines.{begins, amend_form, row_form, due_age, Tail, listed, end, surplus, neither, listed_made, most_members, tail_of}

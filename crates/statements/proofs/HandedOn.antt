@@ -9,14 +9,15 @@ use Rattle.plan.specs.declared.Member.{Member}
 use Rattle.rule_order.proofs.ValuedLaws.{amended_kept}
 use Rattle.amendments.proofs.Keeping.{list_kept, few_listed}
 use Rattle.walk.specs.Outcome.{Outcome, values, refusal}
-use Rattle.walk.specs.Lines.{most_members, member_from}
+use Rattle.plan.specs.Numbers.{member_from, numbers_of}
+use Rattle.walk.specs.Lines.{most_members}
 use Rattle.walk.specs.Walk.{Case}
 use Rattle.walk.specs.Kept.{AcceptedCase}
 use Rattle.walk.proofs.Accepted.{accepted_keeps}
 use Rattle.stretches.proofs.ArrayLaws.{filled_front}
 use Rattle.amend_lines.specs.Array.{list_array}
 use Rattle.amend_lines.proofs.ArrayLaws.{list_front}
-use Rattle.members.specs.Array.{numbers_of, array_of}
+use Rattle.members.specs.Array.{array_of}
 use Rattle.casefile.specs.declared.Accepting.TheVariants.{Accepted}
 use Rattle.casefile.specs.Answers.{accepting_of, accepting}
 use Rattle.casefile.specs.Stored.{amendments_after, rows_after, members_after}

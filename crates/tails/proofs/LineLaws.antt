@@ -15,7 +15,8 @@ use Rattle.fields.specs.Values.{Values, Held, found, misread, values_of, keyed_o
 use Rattle.fields.proofs.SplitLaws.{has_line, has_none}
 use Rattle.fields.proofs.KeyLaws.{starts_line}
 use Rattle.fields.proofs.AnswerLaws.{GoodLine, good_line, is_good, is_wrong, is_cut, Answers}
-use Rattle.walk.specs.Lines.{Tail, listed, end, surplus, neither, member_from, listed_made, end_made, tail_of}
+use Rattle.plan.specs.Numbers.{member_from}
+use Rattle.walk.specs.Lines.{Tail, listed, end, surplus, neither, listed_made, end_made, tail_of}
 use Rattle.tails.specs.declared.Kind.TheVariants.{Listed, End, Surplus, Neither, Cut as CutOff}
 use Rattle.tails.specs.declared.Kind.{Kind}
 use Rattle.tails.specs.Tails.{kind_at, kind_of, TailHeld}

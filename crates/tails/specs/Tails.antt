@@ -1,7 +1,8 @@
 -- Rules 4.1, 4.6 and 12.3, what the code answers of a line after the rows: what it is, with the place of its byte 10; or it is cut off before one.
 use Rattle.std.specs.Prelude.{ℕ, ◌≡◌, List, Bool, cond, length, get_or}
 use Rattle.fields.specs.Split.{seek_of, has_of, upto_of}
-use Rattle.walk.specs.Lines.{Tail, listed, end, surplus, neither, member_from, tail_of}
+use Rattle.plan.specs.Numbers.{member_from}
+use Rattle.walk.specs.Lines.{Tail, listed, end, surplus, neither, tail_of}
 use Rattle.tails.specs.declared.Kind.{Kind}
 use Rattle.tails.specs.declared.Kind.TheVariants.{Listed, End, Surplus, Neither, Cut}
 

@@ -5,7 +5,7 @@
 ghost use Rattle.std.specs.Prelude.{◌≡◌, true, false};
 ghost use Rattle.fields.specs.Text.{bytes};
 ghost use Rattle.fields.specs.Split.{starts_of};
-ghost use Rattle.walk.specs.Lines.{member_from};
+ghost use Rattle.plan.specs.Numbers.{member_from};
 ghost use Rattle.tails.specs.Tails.{kind_of, TailHeld};
 
 use fields::text::{seek, starts};

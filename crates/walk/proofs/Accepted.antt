@@ -15,7 +15,8 @@ use Rattle.plan.specs.declared.Amendment.{Amendment}
 use Rattle.plan.specs.declared.Member.{Member}
 use Rattle.plan.specs.Benefit.{B}
 use Rattle.rules.specs.Rules.{first_among}
-use Rattle.rules.specs.Heading.{TermRule, term_rules, term_rule, terms_of, ruled, head_rules, plan_from}
+use Rattle.plan.specs.Numbers.{terms_of, plan_from}
+use Rattle.rules.specs.Heading.{TermRule, term_rules, term_rule, ruled, head_rules}
 use Rattle.row_rules.specs.Table.{row_rules, row_numbers, row_of as row_in, weight_before, rows_refusal}
 use Rattle.amendments.specs.Judging.{amendment_refusal, unit_refusal, each_refusal}
 use Rattle.amendments.proofs.Keeping.{list_kept, kept_list, each_next, next_each}

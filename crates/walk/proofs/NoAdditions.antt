@@ -13,7 +13,7 @@ use Rattle.plan.specs.declared.Plan.{Plan}
 use Rattle.plan.specs.declared.Amendment.{Amendment}
 use Rattle.plan.specs.declared.Member.{Member}
 use Rattle.rules.specs.Refusals.{wrong_count}
-use Rattle.rules.specs.Heading.{plan_from}
+use Rattle.plan.specs.Numbers.{plan_from}
 use Rattle.amendments.specs.Force.{in_force_after, in_force, additions}
 use Rattle.amendments.proofs.Putting.{no_additions}
 use Rattle.rule_order.specs.Acceptance.{person_sum, line_refusal}

@@ -17,8 +17,9 @@ use Rattle.fields.proofs.LineLaws.{upto_all}
 use Rattle.rules.specs.Refusals.{high_unit, wrong_amendment}
 use Rattle.rules.specs.Rules.{unless, first_among}
 use Rattle.plan.specs.declared.Plan.{Plan}
-use Rattle.rules.specs.Heading.{unit_most, plan_from}
-use Rattle.amendments.specs.Force.{amendment_from, unit_valued}
+use Rattle.plan.specs.Numbers.{plan_from, amendment_from}
+use Rattle.rules.specs.Heading.{unit_most}
+use Rattle.amendments.specs.Force.{unit_valued}
 use Rattle.amendments.specs.Judging.{most_amendments, field_refusal, amendment_refusal, unit_refusal}
 use Rattle.plan.specs.declared.Amendment.{Amendment}
 use Rattle.walk.specs.Outcome.{Outcome, values, refusal, and_then, passing, settled}

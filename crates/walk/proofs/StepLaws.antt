@@ -18,7 +18,7 @@ use Rattle.plan.specs.declared.Member.{Member}
 use Rattle.rules.specs.Refusals.{out_of_range, wrong_count, wrong_amendment}
 use Rattle.rules.specs.Rules.{first_among}
 use Rattle.rules.proofs.RuleLaws.{all_kept, kept_all}
-use Rattle.amendments.specs.Force.{amendment_from}
+use Rattle.plan.specs.Numbers.{amendment_from}
 use Rattle.amendments.specs.Judging.{most_amendments, field_refusal, amendment_refusal, unit_refusal}
 use Rattle.walk.specs.Terms.{term_forms, term_form, term_refusal}
 use Rattle.walk.specs.Lines.{begins, amend_form, row_form, due_age, row_refusal, Tail, listed, end, surplus, neither, end_made, most_members, tail_of}

@@ -2,7 +2,7 @@
 use Rattle.std.specs.Prelude.{ℕ, zero, suc, ◌≤◌, ◌<◌, ◌≡◌, List, [], ◌∷◌, ◌++◌, length, get_or}
 use Rattle.rates.specs.Table.{ages}
 use Rattle.plan.specs.declared.Member.{Member}
-use Rattle.rules.specs.Heading.{plan_from}
+use Rattle.plan.specs.Numbers.{plan_from}
 use Rattle.amendments.specs.Judging.{amendment_refusal, unit_refusal}
 use Rattle.rule_order.specs.Acceptance.{amended_refusal, member_refusal, person_sum}
 use Rattle.walk.specs.Terms.{term_refusal}

@@ -7,6 +7,7 @@ use Rattle.fields.specs.Numbers.{whole_of, amount_of}
 use Rattle.fields.specs.Values.{Values, found, misread, keyed_of}
 use Rattle.rates.specs.Table.{first_age}
 use Rattle.plan.specs.declared.Member.{Member}
+use Rattle.plan.specs.Numbers.{member_from}
 use Rattle.rules.specs.Rules.{first_among}
 use Rattle.row_rules.specs.Table.{row_rules, row_numbers, weight_before}
 
@@ -50,15 +51,12 @@ pub data Tail : Type 0 where
 abbrev pub most_members : ℕ
 most_members = 1000
 
--- rule 4.1: id, person, entry age, age and salary; rule 4.6: the count of members
-abbrev pub member_from : List ℕ → Member
-member_from vs =
-    record { id = get_or vs 0 0; person = get_or vs 1 0; entry = get_or vs 2 0; age = get_or vs 3 0; salary = get_or vs 4 0 }
-
+-- rule 4.1: id, person, entry age, age and salary
 abbrev pub listed_made : Values → Tail
 listed_made (found vs) = listed (member_from vs)
 listed_made misread = neither
 
+-- rule 4.6: the count of members
 abbrev pub end_made : Values → Tail
 end_made (found vs) = end (get_or vs 0 0)
 end_made misread = neither

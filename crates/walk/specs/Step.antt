@@ -11,9 +11,9 @@ use Rattle.plan.specs.declared.Amendment.{Amendment}
 use Rattle.plan.specs.declared.Member.{Member}
 use Rattle.rules.specs.Refusals.{bytes_after, wrong_count, plan_form, wrong_amendment, member_form, surplus_member}
 use Rattle.rules.specs.Rules.{first_among}
-use Rattle.rules.specs.Heading.{plan_from}
+use Rattle.plan.specs.Numbers.{plan_from, amendment_from}
 use Rattle.row_rules.specs.Table.{row_rules}
-use Rattle.amendments.specs.Force.{amendment_from, listed as listedAmong, stands, in_force_after, additions, as_valued, amend}
+use Rattle.amendments.specs.Force.{listed as listedAmong, stands, in_force_after, additions, as_valued, amend}
 use Rattle.amendments.specs.Judging.{most_amendments, field_refusal, amendment_rules, amendment_refusal, unit_refusal, many}
 use Rattle.rule_order.specs.Acceptance.{person_sum, line_refusal}
 use Rattle.walk.specs.Outcome.{Outcome, values, refusal, passing, settled}

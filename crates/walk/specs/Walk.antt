@@ -6,7 +6,7 @@ use Rattle.plan.specs.declared.Amendment.{Amendment}
 use Rattle.plan.specs.declared.Member.{Member}
 use Rattle.rules.specs.Refusals.{too_large, cut_off, bytes_after}
 use Rattle.walk.specs.Outcome.{Outcome, values, refusal, and_then}
-use Rattle.rules.specs.Heading.{plan_from}
+use Rattle.plan.specs.Numbers.{plan_from}
 use Rattle.amendments.specs.Force.{as_valued}
 use Rattle.walk.specs.Step.{Head, State, heading, amending, table, people, ended, step}
 

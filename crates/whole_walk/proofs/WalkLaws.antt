@@ -8,7 +8,7 @@ use native.Mathlib.Omega.{arith}
 use borrow.Author.Tests.{lt-ltb, le-ltb}
 use Rattle.plan.specs.declared.Plan.{Plan}
 use Rattle.plan.specs.declared.Amendment.{Amendment}
-use Rattle.rules.specs.Heading.{plan_from}
+use Rattle.plan.specs.Numbers.{plan_from}
 use Rattle.amendments.specs.Force.{amendments_from, as_valued}
 use Rattle.amendments.proofs.Keeping.{list_kept}
 use Rattle.rule_order.specs.Acceptance.{plan_refusal}

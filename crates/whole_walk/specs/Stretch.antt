@@ -2,7 +2,7 @@
 use Rattle.std.specs.Prelude.{ℕ, ◌≤◌, ◌≡◌, List, Bool, true, length, take}
 use Rattle.plan.specs.declared.Plan.{Plan}
 use Rattle.plan.specs.declared.Member.{Member}
-use Rattle.rules.specs.Heading.{plan_from}
+use Rattle.plan.specs.Numbers.{plan_from}
 use Rattle.amendments.specs.Force.{amendments_from}
 use Rattle.amendments.specs.Judging.{amendments_refusal}
 use Rattle.walk.specs.Outcome.{Outcome, values, refusal}

@@ -3,7 +3,7 @@
 #![tactic(auto)]
 
 ghost use Rattle.std.specs.Prelude.{◌≡◌, true, [], ◌≤◌, take};
-ghost use Rattle.rules.specs.Heading.{plan_from};
+ghost use Rattle.plan.specs.Numbers.{plan_from};
 ghost use Rattle.amendments.specs.Force.{amendments_from, as_valued};
 ghost use Rattle.walk.specs.Step.{headed, amending};
 ghost use Rattle.walk.specs.Walk.{walk_from, walk_of};

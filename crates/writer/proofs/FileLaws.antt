@@ -7,11 +7,11 @@ use native.Mathlib.Omega.{arith}
 use borrow.Author.Tests.{le-leb, ne_eqb}
 use lib.Dec.{leb}
 use lib.ListN.{length, length-map}
-use Rattle.amendments.specs.Force.{amendment_from, amendments_from}
+use Rattle.plan.specs.Numbers.{amendment_from, member_from}
+use Rattle.amendments.specs.Force.{amendments_from}
 use Rattle.amendments.proofs.Keeping.{list_kept, few_listed}
 use Rattle.rule_order.proofs.ValuedLaws.{amended_kept}
 use Rattle.plan.specs.declared.Plan.{Plan}
-use Rattle.walk.specs.Lines.{member_from}
 use Rattle.walk.specs.Outcome.{refusal as refused-at}
 use Rattle.walk.specs.Walk.{Case}
 use Rattle.printing.specs.Puts.{Puts}

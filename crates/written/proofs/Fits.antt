@@ -12,7 +12,8 @@ use Rattle.plan.specs.declared.Plan.{Plan}
 use Rattle.plan.specs.declared.Amendment.{Amendment}
 use Rattle.plan.specs.declared.Member.{Member}
 use Rattle.rules.specs.Rules.{first_among, between}
-use Rattle.rules.specs.Heading.{head_rules, terms_of}
+use Rattle.plan.specs.Numbers.{terms_of}
+use Rattle.rules.specs.Heading.{head_rules}
 use Rattle.rules.proofs.RuleLaws.{between_true}
 use Rattle.amendments.specs.Judging.{each_refusal}
 use Rattle.amendments.proofs.Keeping.{list_kept, amendment_facts, each_next}

@@ -13,9 +13,9 @@ use Rattle.fields.specs.Numbers.{whole_of, amount_of}
 use Rattle.fields.specs.Values.{Values, found, misread, keyed_of}
 use Rattle.plan.specs.declared.Amendment.{Amendment}
 use Rattle.plan.specs.declared.Member.{Member}
-use Rattle.amendments.specs.Force.{amendment_from, fields_of}
+use Rattle.plan.specs.Numbers.{amendment_from, fields_of, member_from}
 use Rattle.printing.specs.Amounts.{whole_number, amount}
-use Rattle.walk.specs.Lines.{amend_form, in_turn, row_form, Tail, listed, end, surplus, neither, member_from, listed_made, end_made, tail_of}
+use Rattle.walk.specs.Lines.{amend_form, in_turn, row_form, Tail, listed, end, surplus, neither, listed_made, end_made, tail_of}
 use Rattle.written.specs.Written.{amendment_line, row_line, row_lines, member_line, end_line}
 use Rattle.written.proofs.ValueTexts.{none_found, found_one, wholes, amounts, texts, Small, keyed_text, text_keyed, keyed_self}
 

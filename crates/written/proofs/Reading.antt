@@ -11,7 +11,7 @@ use Rattle.fields.specs.Values.{Values, found, misread}
 use Rattle.rates.specs.Table.{first_age, ages}
 use Rattle.plan.specs.declared.Amendment.{Amendment}
 use Rattle.plan.specs.declared.Member.{Member}
-use Rattle.amendments.specs.Force.{amendment_from}
+use Rattle.plan.specs.Numbers.{amendment_from}
 use Rattle.amendments.specs.Judging.{most_amendments, field_refusal}
 use Rattle.rules.specs.Refusals.{wrong_count, wrong_amendment}
 use Rattle.walk.specs.Outcome.{values}

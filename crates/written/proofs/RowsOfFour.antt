@@ -9,7 +9,7 @@ use lib.ListN.{length, get_or}
 use Rattle.fields.specs.Values.{Values, found, misread}
 use Rattle.rates.specs.Table.{ages}
 use Rattle.rules.specs.Refusals.{wrong_count, wrong_amendment}
-use Rattle.amendments.specs.Force.{amendment_from}
+use Rattle.plan.specs.Numbers.{amendment_from}
 use Rattle.amendments.specs.Judging.{most_amendments, field_refusal}
 use Rattle.walk.specs.Terms.{term_forms, term_form}
 use Rattle.walk.specs.Lines.{row_form, due_age, Tail, listed, end, surplus, neither, most_members, tail_of, begins, amend_form}

@@ -16,7 +16,7 @@ use Rattle.fields.proofs.SplitLaws.{and_true_left, and_true_right}
 use Rattle.fields.proofs.KeyLaws.{starts_split}
 use Rattle.plan.specs.declared.Plan.{Plan}
 use Rattle.printing.specs.Amounts.{whole_number, amount}
-use Rattle.rules.specs.Heading.{terms_of}
+use Rattle.plan.specs.Numbers.{terms_of}
 use Rattle.walk.specs.Terms.{coded_from, formula_word, method_word, term_forms}
 use Rattle.written.specs.Written.{word_of, formula_words, method_words, term_lines}
 use Rattle.written.proofs.ValueTexts.{none_found, found_one, Kind, wholes, amounts, keyed_text, text_keyed, keyed_self}

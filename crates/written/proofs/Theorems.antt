@@ -9,7 +9,7 @@ use lib.ListN.{length}
 use borrow.Author.Tests.{le-ltb}
 use Rattle.rates.specs.Table.{first_age}
 use Rattle.plan.specs.declared.Member.{Member}
-use Rattle.rules.specs.Heading.{terms_of, plan_from}
+use Rattle.plan.specs.Numbers.{terms_of, plan_from}
 use Rattle.walk.specs.Outcome.{values}
 use Rattle.walk.specs.Terms.{term_forms, term_form}
 use Rattle.walk.specs.Step.{Head, headed, State, heading, amending, table, people, ended}

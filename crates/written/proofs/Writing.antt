@@ -13,7 +13,7 @@ use Rattle.rates.specs.Table.{ages}
 use Rattle.plan.specs.declared.Amendment.{Amendment}
 use Rattle.plan.specs.declared.Member.{Member}
 use Rattle.rules.specs.Refusals.{wrong_count, wrong_amendment}
-use Rattle.amendments.specs.Force.{amendment_from, fields_of}
+use Rattle.plan.specs.Numbers.{amendment_from, fields_of}
 use Rattle.amendments.specs.Judging.{most_amendments, field_refusal}
 use Rattle.walk.specs.Outcome.{values}
 use Rattle.walk.specs.Terms.{term_forms, term_form, term_refusal}

@@ -7,7 +7,8 @@ use lib.ListN.{length, take, set, length-set, length-take}
 use native.Mathlib.Omega.{arith}
 use borrow.Author.Rules.{rules}
 use Rattle.plan.specs.declared.Amendment.{Amendment}
-use Rattle.amendments.specs.Force.{amendments_from, fields_of}
+use Rattle.plan.specs.Numbers.{fields_of}
+use Rattle.amendments.specs.Force.{amendments_from}
 use Rattle.amendments.specs.Judging.{amendment_refusal, unit_refusal, each_refusal}
 use Rattle.walk.specs.Outcome.{settled}
 use Rattle.amend_lines.specs.Stretch.{refusal_of}

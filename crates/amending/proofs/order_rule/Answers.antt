@@ -1,6 +1,6 @@
 -- `amending::order_rule` meets its contract.
 use lib.ListN.{length-map}
-use Rattle.amendments.specs.Force.{amendment_from}
+use Rattle.plan.specs.Numbers.{amendment_from}
 use Rattle.amending.proofs.order_rule.Goals as goal
 
 pub returns : goal.returns

@@ -6,7 +6,7 @@ use Rattle.plan.specs.declared.Plan.{Plan}
 use Rattle.amendments.specs.Force.{amendments_from}
 use Rattle.rule_order.specs.Acceptance.{amended_refusal}
 use Rattle.rule_order.proofs.ValuedLaws.{amended_kept, valued_is_accepted}
-use Rattle.walk.specs.Lines.{member_from}
+use Rattle.plan.specs.Numbers.{member_from}
 use Rattle.judging.specs.Refusing.{plain_case, members_refusal}
 use Rattle.judging.proofs.OrderLaws.{plan_refused, count_refused, members_judged}
 use Rattle.judging.proofs.case_refusal.Goals as goal

@@ -4,7 +4,7 @@ use native.Mathlib.Omega.{arith}
 use mathlib.Core.Path.{refl}
 use Prim.Native.Nat.{◌-◌}
 use lib.Seq.{take_all}
-use Rattle.amendments.specs.Force.{amendment_from}
+use Rattle.plan.specs.Numbers.{amendment_from}
 use Rattle.written.specs.Written.{amendment_line}
 use Rattle.case_lines.proofs.TextLaws.{no_lines, line_on}
 use Rattle.case_lines.proofs.lists.write_amendments.Goals as goal

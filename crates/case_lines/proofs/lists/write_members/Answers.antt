@@ -4,7 +4,7 @@ use native.Mathlib.Omega.{arith}
 use mathlib.Core.Path.{refl}
 use Prim.Native.Nat.{◌-◌}
 use lib.Seq.{take_all}
-use Rattle.walk.specs.Lines.{member_from}
+use Rattle.plan.specs.Numbers.{member_from}
 use Rattle.written.specs.Written.{member_line}
 use Rattle.case_lines.proofs.TextLaws.{no_lines, line_on}
 use Rattle.case_lines.proofs.lists.write_members.Goals as goal

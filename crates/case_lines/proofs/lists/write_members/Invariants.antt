@@ -3,7 +3,7 @@ use mathlib.Core.Path.{◌≡◌}
 use mathlib.Core.List.{map}
 use Prim.Native.Nat.{◌+◌, ◌-◌, ◌*◌, ◌≤◌}
 use lib.ListN.{length, take}
-use Rattle.walk.specs.Lines.{member_from}
+use Rattle.plan.specs.Numbers.{member_from}
 use Rattle.printing.specs.Puts.{Puts}
 use Rattle.written.specs.Written.{member_line, closed_lines}
 use Rattle.case_lines.proofs.lists.write_members.Given as goal
