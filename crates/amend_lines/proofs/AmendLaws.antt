@@ -21,7 +21,8 @@ use Rattle.rules.proofs.RuleLaws.{all_kept}
 use Rattle.amendments.specs.Force.{amendments_from}
 use Rattle.amendments.specs.Judging.{most_amendments, field_refusal, amendment_refusal, unit_refusal, each_refusal}
 use Rattle.amendments.proofs.Keeping.{kept_list}
-use Rattle.walk.specs.Outcome.{refusal, settled}
+use Rattle.rules.specs.Outcome.{refusal}
+use Rattle.walk.specs.Settled.{settled}
 use Rattle.walk.specs.Lines.{begins, amend_form}
 use Rattle.walk.specs.Step.{headed, amending, wrong, right, amend_refusal, amend_line, verdict_of}
 use Rattle.walk.specs.Walk.{walk_from}

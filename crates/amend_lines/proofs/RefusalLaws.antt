@@ -16,7 +16,7 @@ use Rattle.rules.proofs.RuleLaws.{first_refuses, first_passes, first_alone}
 use Rattle.plan.specs.Numbers.{amendment_from, fields_of}
 use Rattle.amendments.specs.Force.{amendments_from}
 use Rattle.amendments.specs.Judging.{most_amendments, field_refusal, amendment_refusal, unit_refusal, each_refusal}
-use Rattle.walk.specs.Outcome.{settled}
+use Rattle.walk.specs.Settled.{settled}
 use Rattle.walk.proofs.StepLaws.{each_next}
 use Rattle.walk.proofs.Accepted.{amends_kept}
 use Rattle.amend_lines.specs.Stretch.{surplus_of, refusal_of}

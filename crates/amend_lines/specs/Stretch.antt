@@ -6,7 +6,8 @@ use Rattle.rules.specs.Refusals.{wrong_amendment}
 use Rattle.rules.specs.Rules.{first_among}
 use Rattle.plan.specs.Numbers.{plan_from}
 use Rattle.amendments.specs.Judging.{most_amendments, field_refusal, amendment_refusal, unit_refusal, amendments_refusal}
-use Rattle.walk.specs.Outcome.{refusal, settled}
+use Rattle.rules.specs.Outcome.{refusal}
+use Rattle.walk.specs.Settled.{settled}
 use Rattle.walk.specs.Step.{headed, amending, table}
 use Rattle.walk.specs.Walk.{walk_from}
 use Rattle.stretches.specs.declared.Stretch.{Stretch}

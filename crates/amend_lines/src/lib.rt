@@ -8,7 +8,7 @@ ghost use Rattle.fields.specs.Values.{Held, line_of};
 ghost use Rattle.plan.specs.Numbers.{amendment_from, fields_of};
 ghost use Rattle.amendments.specs.Force.{amendments_from};
 ghost use Rattle.amendments.specs.Judging.{most_amendments, amendment_refusal, unit_refusal, each_refusal};
-ghost use Rattle.walk.specs.Outcome.{settled};
+ghost use Rattle.walk.specs.Settled.{settled};
 ghost use Rattle.walk.specs.Lines.{amend_form, begins as Lines·begins};
 ghost use Rattle.amend_lines.specs.Array.{list_array};
 ghost use Rattle.amend_lines.specs.Stretch.{surplus_of, refusal_of, AmendsAre};

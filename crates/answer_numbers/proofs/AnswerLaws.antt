@@ -9,7 +9,7 @@ use Rattle.casefile.specs.declared.Reading.{Reading}
 use Rattle.casefile.specs.declared.Reading.TheVariants.{Read, Refused as ReadingRefused}
 use Rattle.casefile.specs.declared.Accepting.{Accepting}
 use Rattle.casefile.specs.declared.Accepting.TheVariants.{Accepted, Refused as AcceptingRefused}
-use Rattle.walk.specs.Outcome.{Outcome, values, refusal}
+use Rattle.rules.specs.Outcome.{Outcome, values, refusal}
 use Rattle.walk.specs.Walk.{Case, walk_of}
 use Rattle.casefile.specs.Answers.{reading, reading_of, accepting}
 use Rattle.costs.specs.declared.Figures.{Figures}

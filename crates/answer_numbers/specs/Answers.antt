@@ -1,6 +1,6 @@
 -- An answer as the plain numbers that an export gives: 0 stands for no refusal, no line and no bytes.
 use Rattle.std.specs.Prelude.{ℕ, List, length}
-use Rattle.walk.specs.Outcome.{Outcome, values, refusal}
+use Rattle.rules.specs.Outcome.{Outcome, values, refusal}
 
 -- rule 12.1: the refusal's number
 abbrev pub number_of : {A : Type 0} → Outcome A → ℕ

@@ -6,7 +6,7 @@ use lib.ListN.{length}
 use native.Mathlib.Omega.{arith}
 use Rattle.plan.specs.declared.Plan.{Plan}
 use Rattle.plan.specs.declared.Member.{Member}
-use Rattle.walk.specs.Outcome.{Outcome, values, refusal}
+use Rattle.rules.specs.Outcome.{Outcome, values, refusal}
 use Rattle.walk.specs.Lines.{most_members}
 use Rattle.walk.specs.Walk.{Case, valued_plan}
 use Rattle.amendments.specs.Judging.{most_amendments}
@@ -18,8 +18,7 @@ use Rattle.walk.specs.Kept.{id_before, AcceptedCase}
 use Rattle.walk.proofs.Accepted.{accepted_keeps}
 use Rattle.members.specs.Array.{array_of}
 use Rattle.members.proofs.ArrayLaws.{array_member}
-use Rattle.casefile.specs.declared.Accepting.TheVariants.{Accepted}
-use Rattle.casefile.specs.Answers.{accepting_of, accepting}
+use Rattle.casefile.specs.Answers.{accepting_of, accepted, accepting}
 use Rattle.casefile.specs.Stored.{amendments_after, rows_after, members_after, id_before_at, AcceptedArrays, AcceptedLists, AcceptedFillsArrays}
 
 before_at : (l : List Member) (j : ℕ) → j < length l → length l ≤ most_members → id_before_at (array_of l) j ≡ id_before l j
@@ -41,7 +40,7 @@ lists c a =
     let front = list_front c.amends refl few in
     record { room = omega (arith, few, list_size c.amends); list = rw front list; valued = rw front (arrays c a) }
 
-accepted_of : (o : Outcome Case) {p : Plan} {k n : ℕ} {amendments rows members : List (List ℕ)} (old_amendments old_rows old_members : List (List ℕ)) → ((c : Case) → o ≡ values c → AcceptedCase c) → Accepted p k n ≡ accepting o → amendments ≡ amendments_after o old_amendments → rows ≡ rows_after o old_rows → members ≡ members_after o old_members → AcceptedLists p k n amendments rows members
+accepted_of : (o : Outcome Case) {p : Plan} {k n : ℕ} {amendments rows members : List (List ℕ)} (old_amendments old_rows old_members : List (List ℕ)) → ((c : Case) → o ≡ values c → AcceptedCase c) → accepted p k n ≡ accepting o → amendments ≡ amendments_after o old_amendments → rows ≡ rows_after o old_rows → members ≡ members_after o old_members → AcceptedLists p k n amendments rows members
 accepted_of (values c) {p} {k} {n} old_amendments old_rows old_members is answer list table array =
     let terms : p ≡ c.plan = cc in
     let many : k ≡ length c.amends = cc in

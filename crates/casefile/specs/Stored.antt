@@ -2,15 +2,14 @@
 use Rattle.std.specs.Prelude.{ℕ, zero, suc, ◌≤◌, ◌<◌, ◌≡◌, List, length, take}
 use Rattle.plan.specs.declared.Plan.{Plan}
 use Rattle.rule_order.specs.Acceptance.{plan_refusal, member_refusal}
-use Rattle.walk.specs.Outcome.{Outcome, values, refusal}
+use Rattle.rules.specs.Outcome.{Outcome, values, refusal}
 use Rattle.walk.specs.Lines.{most_members}
 use Rattle.walk.specs.Walk.{Case}
 use Rattle.amendments.specs.Force.{amendments_from, as_valued}
 use Rattle.amendments.specs.Judging.{amendments_refusal}
 use Rattle.amend_lines.specs.Array.{list_array}
 use Rattle.members.specs.Array.{array_of, member_at}
-use Rattle.casefile.specs.declared.Accepting.TheVariants.{Accepted}
-use Rattle.casefile.specs.Answers.{accepting_of, accepting}
+use Rattle.casefile.specs.Answers.{accepting_of, accepted, accepting}
 
 -- after accepting: the case where it is accepted, and else what they held before
 abbrev pub amendments_after : Outcome Case → List (List ℕ) → List (List ℕ)
@@ -43,8 +42,8 @@ pub record AcceptedLists (p : Plan) (k n : ℕ) (amendments rows members : List 
   pub list : amendments_refusal p (amendments_from (take k amendments)) ≡ 0
   pub valued : AcceptedArrays (as_valued p (amendments_from (take k amendments))) n rows members
 
--- where accept_case answers Accepted p k n, its arrays hold k amendments that the plan is accepted with, the rows, and n members, each of which keeps
+-- where accept_case accepts a plan p with k amendments and n members, its arrays hold k amendments that the plan is accepted with, the rows, and n members, each of which keeps
 -- its own rules after the one before it, under the plan as it is valued
 abbrev pub AcceptedFillsArrays : Type 0
 AcceptedFillsArrays =
-    (s : List ℕ) (p : Plan) (k n : ℕ) (amendments old_amendments rows old_rows members old_members : List (List ℕ)) → Accepted p k n ≡ accepting (accepting_of s) → amendments ≡ amendments_after (accepting_of s) old_amendments → rows ≡ rows_after (accepting_of s) old_rows → members ≡ members_after (accepting_of s) old_members → AcceptedLists p k n amendments rows members
+    (s : List ℕ) (p : Plan) (k n : ℕ) (amendments old_amendments rows old_rows members old_members : List (List ℕ)) → accepted p k n ≡ accepting (accepting_of s) → amendments ≡ amendments_after (accepting_of s) old_amendments → rows ≡ rows_after (accepting_of s) old_rows → members ≡ members_after (accepting_of s) old_members → AcceptedLists p k n amendments rows members

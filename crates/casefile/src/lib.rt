@@ -4,39 +4,24 @@
 #![tactic(auto)]
 
 ghost use Rattle.std.specs.Prelude.{◌≡◌};
+ghost use Rattle.rules.specs.Outcome.{outcome};
 ghost use Rattle.casefile.specs.Answers.{reading_of, accepting_of, accepting};
 ghost use Rattle.casefile.specs.Stored.{amendments_after, rows_after, members_after};
 
-use plan::{Amendments, MOST_AMENDMENTS, MOST_MEMBERS, Members, Plan};
+use plan::{Amendments, MOST_AMENDMENTS, MOST_MEMBERS, Members};
 use rates::{AGES, Rows};
-use whole_walk::{Walked, walk_lines};
+use rules::refusals::Refused;
+use whole_walk::{Outline, walk_lines};
 
-// The answer of reading: the form is right, which says nothing of ranges; or a refusal's number and line.
-#[derive(Clone, Copy)]
-pub enum Reading {
-    Read,
-    Refused(u64, u64),
-}
-
-// Rule 5.1: reads a case file for its form.
-pub fn read_case(case: &[u8]) -> Reading
-    ensures { result ≡ reading_of case.now }
+// Rule 5.1: reads a case file for its form, which says nothing of ranges.
+pub fn read_case(case: &[u8]) -> Result<(), Refused>
+    ensures { outcome result ≡ reading_of case.now }
 {
-    let mut list = [[0u64; 4]; MOST_AMENDMENTS];
-    let mut rows = [[0u32; 4]; AGES];
-    let mut members = [[0u64; 5]; MOST_MEMBERS];
-    match walk_lines(case, false, &mut list, &mut rows, &mut members) {
-        Walked::Whole(_, _, _) => Reading::Read,
-        Walked::Refused(number, line) => Reading::Refused(number, line),
-    }
-}
-
-// The answer of accepting: the plan, with the heading's unit, and the counts of amendments and members; or a refusal's number and
-// line.
-#[derive(Clone, Copy)]
-pub enum Accepting {
-    Accepted(Plan, u64, u64),
-    Refused(u64, u64),
+    let mut list = [[0; 4]; MOST_AMENDMENTS];
+    let mut rows = [[0; 4]; AGES];
+    let mut members = [[0; 5]; MOST_MEMBERS];
+    walk_lines(case, false, &mut list, &mut rows, &mut members)?;
+    Ok(())
 }
 
 // Rule 5.2: accepts a case file, its form and its ranges. An accepted case is copied out: its amendments to `amendments`, its table
@@ -47,22 +32,18 @@ pub fn accept_case(
     amendments: &mut Amendments,
     rows: &mut Rows,
     members: &mut Members,
-) -> Accepting
-    ensures value { result ≡ accepting (accepting_of case.now) }
+) -> Result<Outline, Refused>
+    ensures answer { outcome result ≡ accepting (accepting_of case.now) }
     ensures amendments_after { amendments.new ≡ amendments_after (accepting_of case.now) amendments.old }
     ensures rows_after { rows.new ≡ rows_after (accepting_of case.now) rows.old }
     ensures members_after { members.new ≡ members_after (accepting_of case.now) members.old }
 {
-    let mut list = [[0u64; 4]; MOST_AMENDMENTS];
-    let mut table = [[0u32; 4]; AGES];
-    let mut array = [[0u64; 5]; MOST_MEMBERS];
-    match walk_lines(case, true, &mut list, &mut table, &mut array) {
-        Walked::Whole(p, listed, n) => {
-            *amendments = list;
-            *rows = table;
-            *members = array;
-            Accepting::Accepted(p, listed, n)
-        }
-        Walked::Refused(number, line) => Accepting::Refused(number, line),
-    }
+    let mut list = [[0; 4]; MOST_AMENDMENTS];
+    let mut table = [[0; 4]; AGES];
+    let mut array = [[0; 5]; MOST_MEMBERS];
+    let outline = walk_lines(case, true, &mut list, &mut table, &mut array)?;
+    *amendments = list;
+    *rows = table;
+    *members = array;
+    Ok(outline)
 }

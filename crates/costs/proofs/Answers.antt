@@ -12,29 +12,29 @@ use Rattle.plan.specs.Ranges.{MemberRanges}
 use Rattle.rule_order.proofs.Facts.{member_facts}
 use Rattle.rule_order.proofs.ValuedLaws.{valued_is_accepted}
 use Rattle.costs.specs.declared.Figures.{Figures}
-use Rattle.costs.specs.declared.Valuation.TheVariants.{Valued, Refused}
+use Rattle.rules.specs.Outcome.{values, refusal}
 use Rattle.costs.specs.Valuation.{method_of, setting_of, figures_at, figures, Limited, valuation, Accepted, Demand3Forms, Demand3Limits, Demand3SharpLimits}
 use Rattle.costs.proofs.EqualForms.{equal_forms}
 use Rattle.costs.proofs.Limits.{limits, sharp_limits}
 use Rattle.costs.proofs.Needs.{sound}
 
 module _ (p : Plan) (l : List Amendment) (rows : List (List ℕ)) (m : Member) where
-  pub refused : {number : ℕ} → number ≡ lone_refusal p l rows m → (number ≡ 0 → ⊥) → Refused number 0 ≡ valuation p l rows m
+  pub refused : {number : ℕ} → number ≡ lone_refusal p l rows m → (number ≡ 0 → ⊥) → refusal number 0 ≡ valuation p l rows m
   unfolding valuation
   refused e some = rw e (simp (ne_eqb (lone_refusal p l rows m) 0 (λ z. some (e ∙ z))))
 
-  pub valued : {f : Figures} → lone_refusal p l rows m ≡ 0 → f ≡ figures (as_valued p l) rows m → Valued f ≡ valuation p l rows m
+  pub valued : {f : Figures} → lone_refusal p l rows m ≡ 0 → f ≡ figures (as_valued p l) rows m → values f ≡ valuation p l rows m
   unfolding valuation
   valued none e = rw e (simp (eq-eqb (lone_refusal p l rows m) 0 none))
 
 module _ (p : Plan) (rows : List (List ℕ)) (m : Member) where
-  own_figures : MemberRanges p rows m → Limited p rows m (Valued (figures p rows m))
+  own_figures : MemberRanges p rows m → Limited p rows m (values (figures p rows m))
   unfolding figures figures_at
   own_figures accepted =
       limits (setting_of p rows m) (sound p rows m accepted) (method_of p.method) m.age accepted.in_range.past_entry accepted.in_range.not_past
 
-  pub limited : {f : Figures} → MemberRanges p rows m → f ≡ figures p rows m → Limited p rows m (Valued f)
-  limited accepted e = subst (λ (f : Figures). Limited p rows m (Valued f)) (sym e) (own_figures accepted)
+  pub limited : {f : Figures} → MemberRanges p rows m → f ≡ figures p rows m → Limited p rows m (values f)
+  limited accepted e = subst (λ (f : Figures). Limited p rows m (values f)) (sym e) (own_figures accepted)
 
 -- ---- demand 3, of every accepted member
 in_ranges : (p : Plan) (l : List Amendment) (rows : List (List ℕ)) (before : ℕ) (m : Member) → Accepted p l rows before m → MemberRanges (as_valued p l) rows m

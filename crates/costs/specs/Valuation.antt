@@ -12,8 +12,7 @@ use Rattle.plan.specs.Benefit.{B}
 use Rattle.amendments.specs.Force.{as_valued}
 use Rattle.rule_order.specs.Acceptance.{amended_refusal, member_refusal, lone_refusal}
 use Rattle.costs.specs.declared.Figures.{Figures}
-use Rattle.costs.specs.declared.Valuation.{Valuation}
-use Rattle.costs.specs.declared.Valuation.TheVariants.{Valued, Refused}
+use Rattle.rules.specs.Outcome.{Outcome, values, refusal}
 use Rattle.costs.specs.Setting.{Setting}
 use Rattle.costs.specs.Costs.{PV, N, N*, L, L*}
 use Rattle.costs.specs.Demand3.{N_most, FormsAgree, WithinDemand, WithinLimits}
@@ -41,17 +40,17 @@ module _ (p : Plan) (rows : List (List ℕ)) (m : Member) where
   figures = figures_at (method_of p.method) m.age
 
   -- rule 10.9, of an answer: N and L lie within 15 cents of their exact fractions, N of CP within 15 × W(x) / W(y)
-  abbrev pub Limited : Valuation → Type 0
-  Limited (Valued f) =
+  abbrev pub Limited : Outcome Figures → Type 0
+  Limited (values f) =
       Within (N_most setting_of (method_of p.method) m.age) f.cost (N* setting_of (method_of p.method) m.age)
       × Within (15 over 1) f.liability (L* setting_of (method_of p.method) m.age)
-  Limited (Refused number line) = Unit {0}
+  Limited (refusal number line) = Unit {0}
 
 -- rules 5.3 and 2.13: the figures under the plan as it is valued, or the refusal with line 0
-unfoldable pub valuation : Plan → List Amendment → List (List ℕ) → Member → Valuation
+unfoldable pub valuation : Plan → List Amendment → List (List ℕ) → Member → Outcome Figures
 valuation p l rows m =
     let number = lone_refusal p l rows m in
-    cond (eqb number 0) (Valued (figures (as_valued p l) rows m)) (Refused number 0)
+    cond (eqb number 0) (values (figures (as_valued p l) rows m)) (refusal number 0)
 
 -- ---- demand 3, of every member that the rules accept: whatever the amendments and the id before it, each age of its own, each of the five methods
 pub record Accepted (p : Plan) (l : List Amendment) (rows : List (List ℕ)) (before : ℕ) (m : Member) : Type 0 where

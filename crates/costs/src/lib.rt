@@ -13,10 +13,3 @@ pub struct Figures {
     pub cost: u64,
     pub liability: u64,
 }
-
-// The answer for plain values: the figures, or a refusal's number and line. The line of plain values is 0 (rule 5.3).
-#[derive(Clone, Copy)]
-pub enum Valuation {
-    Valued(Figures),
-    Refused(u64, u64),
-}

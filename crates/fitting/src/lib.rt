@@ -5,6 +5,7 @@
 
 ghost use Rattle.std.specs.Prelude.{◌≡◌, ◌++◌, ◌≤◌, leb, length};
 ghost use Rattle.rounding.specs.Signed.{integer_of};
+ghost use Rattle.rules.specs.Outcome.{outcome};
 ghost use Rattle.walk.specs.Lines.{most_members};
 ghost use Rattle.report.specs.Lines.{plan_lines, refusal_line};
 ghost use Rattle.report.specs.MemberLines.{lines_in, ShortLines};
@@ -14,15 +15,8 @@ use all_figures::Worked;
 use plan::Members;
 use report::{write_lines, write_refusal};
 use rounding::Signed;
-use rules::refusals::NO_ROOM;
+use rules::refusals::{Refusal, Refused};
 use totals::Totals;
-
-// The answer of an entry that writes: how many bytes, or a refusal's number and line.
-#[derive(Clone, Copy)]
-pub enum Answer {
-    Written(usize),
-    Refused(u64, u64),
-}
 
 // The longest lines: that of an accepted member, and the plan's three of 1,000 members, whatever words they hold.
 const LONGEST_LINE: usize = 64;
@@ -58,7 +52,7 @@ fn lines_fit(
     needed <= room
 }
 
-// Writes all lines of an accepted case where they fit.
+// Writes all lines of an accepted case where they fit, and tells how many bytes they are.
 pub fn fit_lines(
     out: &mut [u8],
     members: &Members,
@@ -67,27 +61,27 @@ pub fn fit_lines(
     t: Totals,
     unfunded: Signed,
     supplemental: Signed,
-) -> Answer
+) -> Result<usize, Refused>
     requires { (count ≤ most_members) × ShortLines members.now worked.now count }
-    ensures value { result ≡ answer (fitting (length out.old) (lines_in members.now worked.now count ++ plan_lines count t (integer_of unfunded) (integer_of supplemental))) }
+    ensures value { outcome result ≡ answer (fitting (length out.old) (lines_in members.now worked.now count ++ plan_lines count t (integer_of unfunded) (integer_of supplemental))) }
     ensures out_after { out.new ≡ buffer (fitting (length out.old) (lines_in members.now worked.now count ++ plan_lines count t (integer_of unfunded) (integer_of supplemental))) out.old }
 {
     if !lines_fit(out.len(), members, worked, count, t, unfunded, supplemental) {
-        return Answer::Refused(NO_ROOM, 0);
+        return Err(Refusal::NoRoom.into());
     }
     let end = write_lines(out, members, worked, count, t, unfunded, supplemental);
-    Answer::Written(end)
+    Ok(end)
 }
 
 // Rule 13.3: writes the one line of a refusal at the start of `out`.
-pub fn refusal_line(number: u64, line: u64, out: &mut [u8]) -> Answer
-    ensures value { result ≡ answer (fitting (length out.old) (refusal_line number line)) }
+pub fn refusal_line(number: u64, line: u64, out: &mut [u8]) -> Result<usize, Refused>
+    ensures value { outcome result ≡ answer (fitting (length out.old) (refusal_line number line)) }
     ensures out_after { out.new ≡ buffer (fitting (length out.old) (refusal_line number line)) out.old }
 {
     let mut nowhere = [0u8; 0];
     if out.len() < write_refusal(&mut nowhere, number, line) {
-        return Answer::Refused(NO_ROOM, 0);
+        return Err(Refusal::NoRoom.into());
     }
     let end = write_refusal(out, number, line);
-    Answer::Written(end)
+    Ok(end)
 }

@@ -15,7 +15,8 @@ use Rattle.fields.specs.Values.{Values, Held}
 use Rattle.fields.proofs.AnswerLaws.{is_good, is_wrong, is_cut, Answers}
 use Rattle.rules.specs.Heading.{term_rules, term_rule}
 use Rattle.rules.proofs.TermLaws.{only_before}
-use Rattle.walk.specs.Outcome.{refusal, settled}
+use Rattle.rules.specs.Outcome.{refusal}
+use Rattle.walk.specs.Settled.{settled}
 use Rattle.walk.specs.Terms.{term_forms, term_form, term_refusal}
 use Rattle.walk.specs.Step.{heading, right, after_term, term_line, verdict_of}
 use Rattle.walk.specs.Walk.{start, walk_from}

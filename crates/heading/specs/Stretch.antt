@@ -1,6 +1,6 @@
 -- Rules 2.1 and 12.4, what the loop over the terms promises: it is the stretch of the walk from line 1 on.
 use Rattle.std.specs.Prelude.{ℕ, ◌+◌, ◌≤◌, ◌≡◌, List, Bool, true, length, drop}
-use Rattle.walk.specs.Outcome.{refusal}
+use Rattle.rules.specs.Outcome.{refusal}
 use Rattle.walk.specs.Terms.{term_forms, term_refusal}
 use Rattle.walk.specs.Step.{headed, amending}
 use Rattle.walk.specs.Walk.{start, walk_from}

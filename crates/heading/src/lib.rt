@@ -6,7 +6,7 @@ ghost use Rattle.fields.specs.declared.Line.TheVariants.{Good};
 ghost use Rattle.fields.specs.Split.{upto_of};
 ghost use Rattle.fields.specs.Values.{Held, line_of};
 ghost use Rattle.rules.specs.Heading.{term_rule};
-ghost use Rattle.walk.specs.Outcome.{settled};
+ghost use Rattle.walk.specs.Settled.{settled};
 ghost use Rattle.walk.specs.Terms.{formula_word, method_word, term_form};
 ghost use Rattle.heading.specs.Words.{coded, word_of};
 ghost use Rattle.heading.specs.Stretch.{HeadIs};

@@ -8,7 +8,7 @@ use lib.Dec.{leb, eqb}
 use lib.ListN.{length}
 use Rattle.amendments.specs.Force.{as_valued}
 use Rattle.rule_order.specs.Acceptance.{lone_refusal}
-use Rattle.walk.specs.Outcome.{Outcome, values, refusal, and_then, passing}
+use Rattle.rules.specs.Outcome.{Outcome, values, refusal, and_then, passing}
 use Rattle.walk.specs.Answers.{Section, FormOf, term_cut, term_form_lem, amend_cut, amend_form_lem, twenty_first, row_cut, row_form_lem, tail_cut, count, tail_form, surplus, after_end, RangeOf, of_a_term, of_average, of_a_field, of_order, of_rest, of_unit, of_a_rate, of_death, of_weight, of_id, of_person, of_entry, of_age, of_salary, of_benefit, of_sum, Placed, no_line, of_form, of_range}
 use Rattle.walk.proofs.Theorems.{refusals_are_placed}
 use Rattle.walk.specs.Walk.{valued_plan}
@@ -16,7 +16,6 @@ use Rattle.casefile.specs.Answers.{accepting_of}
 use Rattle.judging.specs.Refusing.{case_refusal}
 use Rattle.written.specs.Written.{written}
 use Rattle.costs.specs.declared.Figures.{Figures}
-use Rattle.costs.specs.declared.Valuation.TheVariants.{Valued, Refused}
 use Rattle.costs.specs.Valuation.{figures, valuation}
 use Rattle.report.specs.Lines.{printed}
 use Rattle.fitting.specs.Fitting.{fitting}
@@ -104,7 +103,7 @@ pub member_numbered : MemberNumbered
 unfolding valuation
 member_numbered p l rows m = by (lone_refusal p l rows m) (figures (as_valued p l) rows m)
   where
-    by : (n : ℕ) (f : Figures) (number line : ℕ) → cond (eqb n 0) (Valued f) (Refused n 0) ≡ Refused number line → 0 < number
+    by : (n : ℕ) (f : Figures) (number line : ℕ) → cond (eqb n 0) (values f) (refusal n 0) ≡ refusal number line → 0 < number
     by zero f number line is = let z : ◌≡◌ {A = ℕ} 0 1 = cc in absurd (omega arith)
     by (suc n) f number line is =
         let refused = rw (ne_eqb (suc n) 0 (omega arith)) at is in

@@ -3,10 +3,9 @@ use Rattle.std.specs.Prelude.{ℕ, ◌<◌, ◌≡◌, List, false}
 use Rattle.plan.specs.declared.Plan.{Plan}
 use Rattle.plan.specs.declared.Amendment.{Amendment}
 use Rattle.plan.specs.declared.Member.{Member}
-use Rattle.walk.specs.Outcome.{Outcome, refusal}
+use Rattle.rules.specs.Outcome.{Outcome, refusal}
 use Rattle.walk.specs.Walk.{Case, walk_of}
 use Rattle.casefile.specs.Answers.{accepting_of}
-use Rattle.costs.specs.declared.Valuation.TheVariants.{Refused}
 use Rattle.costs.specs.Valuation.{valuation}
 use Rattle.fitting.specs.Fitting.{fitting}
 use Rattle.valuation.specs.Answers.{valued_of}
@@ -34,4 +33,4 @@ WritingNumbered = (room : ℕ) (c : Case) → Numbered (file_of room c)
 -- the same of plain values
 abbrev pub MemberNumbered : Type 0
 MemberNumbered =
-    (p : Plan) (l : List Amendment) (rows : List (List ℕ)) (m : Member) (number line : ℕ) → valuation p l rows m ≡ Refused number line → 0 < number
+    (p : Plan) (l : List Amendment) (rows : List (List ℕ)) (m : Member) (number line : ℕ) → valuation p l rows m ≡ refusal number line → 0 < number

@@ -3,7 +3,8 @@
 // `requires`, and every place that is lent has its equation on every path. embed/kuyeshan.h declares them for C.
 #![tactic(auto)]
 
-ghost use Rattle.std.specs.Prelude.{◌≡◌, false, length};
+ghost use Rattle.std.specs.Prelude.{◌≡◌, false, length, MatchResult};
+ghost use Rattle.rules.specs.Outcome.{outcome};
 ghost use Rattle.plan.specs.Numbers.{plan_from, member_from};
 ghost use Rattle.amendments.specs.Force.{amendments_from};
 ghost use Rattle.walk.specs.Walk.{walk_of};
@@ -14,55 +15,69 @@ ghost use Rattle.report.specs.Lines.{refusal_line};
 ghost use Rattle.fitting.specs.Fitting.{fitting, buffer};
 ghost use Rattle.valuation.specs.Answers.{valued_of};
 ghost use Rattle.writer.specs.Files.{file_of};
-ghost use Rattle.answer_numbers.specs.Answers.{number_of, line_number_of, written_of};
+ghost use Rattle.answer_numbers.specs.Answers.{number_of as Answers·number_of, line_number_of, written_of as Answers·written_of};
 ghost use Rattle.answer_numbers.specs.Values.{refused_by, figures_after};
 
-use casefile::{Accepting, Reading};
-use costs::Valuation;
-use fitting::Answer;
 use plan::{MOST_AMENDMENTS, MOST_MEMBERS, Terms};
 use rates::{AGES, Rows};
+use rules::refusals::Refused;
 use rules::terms::plan_from;
 use tails::member_from;
 use totals::EngineChoice;
 
+// The refusal's number, 0 for none.
+fn number_of<T>(answer: &Result<T, Refused>) -> u64
+    ensures { result ≡ Answers·number_of (outcome answer.now) }
+{
+    match answer {
+        Ok(_) => 0,
+        Err(refused) => refused.refusal.number(),
+    }
+}
+
+// The refusal's line, 0 for none.
+fn line_of<T>(answer: &Result<T, Refused>) -> u64
+    ensures { result ≡ line_number_of (outcome answer.now) }
+{
+    match answer {
+        Ok(_) => 0,
+        Err(refused) => refused.line,
+    }
+}
+
+// How many bytes were written.
+fn written_of(answer: &Result<usize, Refused>) -> u64
+    ensures { MatchResult answer.now (λ n. result ≡ n) (λ _. result ≡ 0) }
+{
+    match answer {
+        Ok(n) => *n as u64,
+        Err(_) => 0,
+    }
+}
+
 // Rule 5.1: reads a case file for its form.
 #[unsafe(no_mangle)]
 pub extern "C" fn kuyeshan_read(case: &[u8], line: &mut u64) -> u64
-    ensures value { result ≡ number_of (walk_of false case.now) }
+    ensures value { result ≡ Answers·number_of (walk_of false case.now) }
     ensures line_after { line.new ≡ line_number_of (walk_of false case.now) }
 {
-    match casefile::read_case(case) {
-        Reading::Read => {
-            *line = 0;
-            0
-        }
-        Reading::Refused(number, at) => {
-            *line = at;
-            number
-        }
-    }
+    let read = casefile::read_case(case);
+    *line = line_of(&read);
+    number_of(&read)
 }
 
 // Rule 5.2: accepts a case file, its form and its ranges. What accepting hands on stays here.
 #[unsafe(no_mangle)]
 pub extern "C" fn kuyeshan_accept(case: &[u8], line: &mut u64) -> u64
-    ensures value { result ≡ number_of (accepting_of case.now) }
+    ensures value { result ≡ Answers·number_of (accepting_of case.now) }
     ensures line_after { line.new ≡ line_number_of (accepting_of case.now) }
 {
-    let mut amendments = [[0u64; 4]; MOST_AMENDMENTS];
-    let mut rows = [[0u32; 4]; AGES];
-    let mut members = [[0u64; 5]; MOST_MEMBERS];
-    match casefile::accept_case(case, &mut amendments, &mut rows, &mut members) {
-        Accepting::Accepted(_, _, _) => {
-            *line = 0;
-            0
-        }
-        Accepting::Refused(number, at) => {
-            *line = at;
-            number
-        }
-    }
+    let mut amendments = [[0; 4]; MOST_AMENDMENTS];
+    let mut rows = [[0; 4]; AGES];
+    let mut members = [[0; 5]; MOST_MEMBERS];
+    let accepted = casefile::accept_case(case, &mut amendments, &mut rows, &mut members);
+    *line = line_of(&accepted);
+    number_of(&accepted)
 }
 
 // Values a case file: the lines of its members and of the plan, at the start of `out`, or a refusal. The engine is chosen by
@@ -74,10 +89,10 @@ pub extern "C" fn kuyeshan_value(
     line: &mut u64,
     written: &mut u64,
 ) -> u64
-    ensures value { result ≡ number_of (valued_of (length out.old) case.now) }
+    ensures value { result ≡ Answers·number_of (valued_of (length out.old) case.now) }
     ensures out_after { out.new ≡ buffer (valued_of (length out.old) case.now) out.old }
     ensures line_after { line.new ≡ line_number_of (valued_of (length out.old) case.now) }
-    ensures written_after { written.new ≡ written_of (valued_of (length out.old) case.now) }
+    ensures written_after { written.new ≡ Answers·written_of (valued_of (length out.old) case.now) }
 {
     value_by(EngineChoice::ByCount, case, out, line, written)
 }
@@ -90,10 +105,10 @@ pub extern "C" fn kuyeshan_value_plain(
     line: &mut u64,
     written: &mut u64,
 ) -> u64
-    ensures value { result ≡ number_of (valued_of (length out.old) case.now) }
+    ensures value { result ≡ Answers·number_of (valued_of (length out.old) case.now) }
     ensures out_after { out.new ≡ buffer (valued_of (length out.old) case.now) out.old }
     ensures line_after { line.new ≡ line_number_of (valued_of (length out.old) case.now) }
-    ensures written_after { written.new ≡ written_of (valued_of (length out.old) case.now) }
+    ensures written_after { written.new ≡ Answers·written_of (valued_of (length out.old) case.now) }
 {
     value_by(EngineChoice::Plain, case, out, line, written)
 }
@@ -106,10 +121,10 @@ pub extern "C" fn kuyeshan_value_shared(
     line: &mut u64,
     written: &mut u64,
 ) -> u64
-    ensures value { result ≡ number_of (valued_of (length out.old) case.now) }
+    ensures value { result ≡ Answers·number_of (valued_of (length out.old) case.now) }
     ensures out_after { out.new ≡ buffer (valued_of (length out.old) case.now) out.old }
     ensures line_after { line.new ≡ line_number_of (valued_of (length out.old) case.now) }
-    ensures written_after { written.new ≡ written_of (valued_of (length out.old) case.now) }
+    ensures written_after { written.new ≡ Answers·written_of (valued_of (length out.old) case.now) }
 {
     value_by(EngineChoice::Shared, case, out, line, written)
 }
@@ -122,23 +137,15 @@ fn value_by(
     line: &mut u64,
     written: &mut u64,
 ) -> u64
-    ensures value { result ≡ number_of (valued_of (length out.old) case.now) }
+    ensures value { result ≡ Answers·number_of (valued_of (length out.old) case.now) }
     ensures out_after { out.new ≡ buffer (valued_of (length out.old) case.now) out.old }
     ensures line_after { line.new ≡ line_number_of (valued_of (length out.old) case.now) }
-    ensures written_after { written.new ≡ written_of (valued_of (length out.old) case.now) }
+    ensures written_after { written.new ≡ Answers·written_of (valued_of (length out.old) case.now) }
 {
-    match valuation::value_case_by(engine, case, out) {
-        Answer::Written(n) => {
-            *line = 0;
-            *written = n as u64;
-            0
-        }
-        Answer::Refused(number, at) => {
-            *line = at;
-            *written = 0;
-            number
-        }
-    }
+    let valued = valuation::value_case_by(engine, case, out);
+    *line = line_of(&valued);
+    *written = written_of(&valued);
+    number_of(&valued)
 }
 
 // Writes the one line of a refusal at the start of `out`. It answers 0, or 30 where the line is longer than that.
@@ -149,20 +156,13 @@ pub extern "C" fn kuyeshan_refusal_line(
     out: &mut [u8],
     written: &mut u64,
 ) -> u64
-    ensures value { result ≡ number_of (fitting (length out.old) (refusal_line number line)) }
+    ensures value { result ≡ Answers·number_of (fitting (length out.old) (refusal_line number line)) }
     ensures out_after { out.new ≡ buffer (fitting (length out.old) (refusal_line number line)) out.old }
-    ensures written_after { written.new ≡ written_of (fitting (length out.old) (refusal_line number line)) }
+    ensures written_after { written.new ≡ Answers·written_of (fitting (length out.old) (refusal_line number line)) }
 {
-    match fitting::refusal_line(number, line, out) {
-        Answer::Written(n) => {
-            *written = n as u64;
-            0
-        }
-        Answer::Refused(refusal, _) => {
-            *written = 0;
-            refusal
-        }
-    }
+    let printed = fitting::refusal_line(number, line, out);
+    *written = written_of(&printed);
+    number_of(&printed)
 }
 
 // Rules 5.5 and 5.6: values a lone member of a plan with its amendments, all of them plain numbers: its benefit, present value,
@@ -181,11 +181,11 @@ pub extern "C" fn kuyeshan_value_member(
     let p = plan_from(plan);
     let m = member_from(member);
     match plain_engine::value_member(p, amendments, *rows, m) {
-        Valuation::Valued(f) => {
+        Ok(f) => {
             *figures = [f.benefit, f.value, f.cost, f.liability];
             0
         }
-        Valuation::Refused(number, _) => number,
+        Err(refused) => refused.refusal.number(),
     }
 }
 
@@ -200,19 +200,12 @@ pub extern "C" fn kuyeshan_write_case(
     out: &mut [u8],
     written: &mut u64,
 ) -> u64
-    ensures value { result ≡ number_of (file_of (length out.old) (plain_case (plan_from plan.now) amendments.now rows.now members.now)) }
+    ensures value { result ≡ Answers·number_of (file_of (length out.old) (plain_case (plan_from plan.now) amendments.now rows.now members.now)) }
     ensures out_after { out.new ≡ buffer (file_of (length out.old) (plain_case (plan_from plan.now) amendments.now rows.now members.now)) out.old }
-    ensures written_after { written.new ≡ written_of (file_of (length out.old) (plain_case (plan_from plan.now) amendments.now rows.now members.now)) }
+    ensures written_after { written.new ≡ Answers·written_of (file_of (length out.old) (plain_case (plan_from plan.now) amendments.now rows.now members.now)) }
 {
     let p = plan_from(plan);
-    match writer::write_case(p, amendments, *rows, members, out) {
-        Answer::Written(n) => {
-            *written = n as u64;
-            0
-        }
-        Answer::Refused(number, _) => {
-            *written = 0;
-            number
-        }
-    }
+    let file = writer::write_case(p, amendments, *rows, members, out);
+    *written = written_of(&file);
+    number_of(&file)
 }

@@ -17,7 +17,7 @@ use Rattle.acceptance.proofs.BenefitLaws.{is_benefit, is_refused}
 use Rattle.persons.specs.Held.{held}
 use Rattle.persons.specs.Search.{Rooted}
 use Rattle.persons.proofs.LineLaws.{rooted_on}
-use Rattle.walk.specs.Outcome.{settled}
+use Rattle.walk.specs.Settled.{settled}
 
 module _ (ranges : Bool) (p : Plan) (rows : List (List ℕ)) (before : ℕ) (m : Member) (count : ℕ) (sums : List (List ℕ)) where
   abbrev Judges : (r : ℕ) (cells' : List ℕ) (sums' : List (List ℕ)) → Type 0

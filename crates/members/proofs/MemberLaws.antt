@@ -19,7 +19,8 @@ use Rattle.persons.specs.Held.{held as held-for}
 use Rattle.persons.specs.Search.{Rooted}
 use Rattle.persons.proofs.HeldLaws.{held_zeros}
 use Rattle.persons.proofs.LineLaws.{rooted_none}
-use Rattle.walk.specs.Outcome.{values as held-values, refusal, settled}
+use Rattle.rules.specs.Outcome.{values as held-values, refusal}
+use Rattle.walk.specs.Settled.{settled}
 use Rattle.plan.specs.Numbers.{member_from, numbers_of}
 use Rattle.walk.specs.Lines.{Tail, most_members, tail_of}
 use Rattle.walk.specs.Step.{Head, people, ended, wrong, right, last_id, refusal_after, tail_line, verdict_of, step}

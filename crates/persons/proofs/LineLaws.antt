@@ -220,28 +220,30 @@ module _ {cells : List ℕ} {sums : List (List ℕ)} {n : ℕ} (rooted : Rooted 
       pick true e = omega (arith, e, more)
       pick false e = omega (arith, e)
 
--- ---- what `add` answers
-abbrev Adds : (cells : List ℕ) (sums : List (List ℕ)) (n person benefit r : ℕ) (cells' : List ℕ) (sums' : List (List ℕ)) → Type 0
-Adds cells sums n person benefit r cells' sums' =
-    (r ≡ unless (leb (held sums person + benefit) 100000000) 29) × ((r ≡ 0 → Rooted cells' sums' (n + 1)) × (r ≡ 0 → (other : ℕ) → held sums' other ≡ held sums other + cond (eqb person other) benefit 0))
+-- ---- what `add` answers: the sum within its ceiling and the line taken up, or the sum above it
+abbrev Adds : (cells : List ℕ) (sums : List (List ℕ)) (n person benefit : ℕ) (cells' : List ℕ) (sums' : List (List ℕ)) → Type 0
+Adds cells sums n person benefit cells' sums' =
+    (0 ≡ unless (leb (held sums person + benefit) 100000000) 29) × (Rooted cells' sums' (n + 1) × ((other : ℕ) → held sums' other ≡ held sums other + cond (eqb person other) benefit 0))
 
-module _ {cells : List ℕ} {sums : List (List ℕ)} {n : ℕ} (rooted : Rooted cells sums n) {person : ℕ} (somebody : 1 ≤ person) {last : ℕ} (found : Found cells sums person last) {line : ℕ} (is : line ≡ line_in cells last) where
-  pub adds_new : line ≡ 0 → n < 1000 → {benefit : ℕ} → benefit ≤ 100000000 → Adds cells sums n person benefit 0 (set cells last (n + 1)) (set sums n (person ∷ benefit ∷ []))
-  adds_new none room {benefit} small =
-      let empty = sym is ∙ none in (
-        rw (new_none rooted somebody found empty, le-leb (0 + benefit) 100000000 (omega arith)),
-        ((λ kept. new_rooted rooted somebody found empty room small), (λ kept. new_held rooted somebody found empty room small)),
-      )
+module _ {cells : List ℕ} {sums : List (List ℕ)} {n : ℕ} (rooted : Rooted cells sums n) {person : ℕ} (somebody : 1 ≤ person) {last : ℕ} (found : Found cells sums person last) (benefit : ℕ) where
+  abbrev line : ℕ
+  line = line_in cells last
 
-  module _ (some : line ≡ 0 → ⊥) {sum : ℕ} (benefit : ℕ) (more : sum ≡ sum_at sums (line - 1) + benefit) where
-    pub adds_over : {cells' : List ℕ} {sums' : List (List ℕ)} → 100000000 < sum → Adds cells sums n person benefit 29 cells' sums'
-    adds_over over = (
-      rw (sum_there rooted somebody found line is some, ← more, lt-leb sum 100000000 over),
-      ((λ kept. absurd (omega arith)), (λ kept. absurd (omega arith))),
-    )
+  pub adds_new : line ≡ 0 → n < 1000 → benefit ≤ 100000000 → Adds cells sums n person benefit (set cells last (n + 1)) (set sums n (person ∷ benefit ∷ []))
+  adds_new empty room small = (
+    rw (new_none rooted somebody found empty, le-leb (0 + benefit) 100000000 (omega arith)) refl,
+    (new_rooted rooted somebody found empty room small, new_held rooted somebody found empty room small),
+  )
 
-    pub adds_later : sum ≤ 100000000 → Adds cells sums n person benefit 0 cells (set sums (line - 1) (person ∷ sum ∷ []))
+  module _ (some : line ≡ 0 → ⊥) where
+    abbrev sum : ℕ
+    sum = sum_at sums (line - 1) + benefit
+
+    pub adds_over : 100000000 < sum → 29 ≡ unless (leb (held sums person + benefit) 100000000) 29
+    adds_over over = rw (sum_there rooted somebody found line refl some, lt-leb sum 100000000 over) refl
+
+    pub adds_later : sum ≤ 100000000 → Adds cells sums n person benefit cells (set sums (line - 1) (person ∷ sum ∷ []))
     adds_later small = (
-      rw (sum_there rooted somebody found line is some, ← more, le-leb sum 100000000 small),
-      ((λ kept. later_rooted rooted somebody found line is some benefit more small), (λ kept. later_held rooted somebody found line is some benefit more small)),
+      rw (sum_there rooted somebody found line refl some, le-leb sum 100000000 small) refl,
+      (later_rooted rooted somebody found line refl some benefit refl small, later_held rooted somebody found line refl some benefit refl small),
     )

@@ -7,27 +7,26 @@ mod annuities;
 
 ghost use Rattle.std.specs.Prelude.{◌≡◌};
 ghost use Rattle.plan.specs.Ranges.{MemberRanges};
+ghost use Rattle.rules.specs.Outcome.{outcome};
 ghost use Rattle.amendments.specs.Force.{amendments_from, as_valued};
 ghost use Rattle.costs.specs.Valuation.{figures, valuation, Limited};
 
 use acceptance::lone_refusal;
 use amending::as_valued;
-use costs::{Figures, Valuation};
+use costs::Figures;
 use parts::{figures_from, method_of};
 use plan::{Member, Plan};
 use rates::Rows;
+use rules::refusals::Refused;
 
 // Rules 5.5, 5.6 and 9.11: values a lone member of a plan with its amendments.
-pub fn value_member(p: Plan, amendments: &[[u64; 4]], rows: Rows, m: Member) -> Valuation
-    ensures figures { result ≡ valuation p (amendments_from amendments.now) rows m }
-    ensures limits { Limited (as_valued p (amendments_from amendments.now)) rows m result }
+pub fn value_member(p: Plan, amendments: &[[u64; 4]], rows: Rows, m: Member) -> Result<Figures, Refused>
+    ensures figures { outcome result ≡ valuation p (amendments_from amendments.now) rows m }
+    ensures limits { Limited (as_valued p (amendments_from amendments.now)) rows m (outcome result) }
 {
-    let refusal = lone_refusal(p, amendments, rows, m);
-    if refusal != 0 {
-        return Valuation::Refused(refusal, 0);
-    }
+    lone_refusal(p, amendments, rows, m)?;
     let valued = as_valued(p, amendments);
-    Valuation::Valued(figures_of(valued, rows, m))
+    Ok(figures_of(valued, rows, m))
 }
 
 // The figures of an accepted member at its own age, by the plan's method and by factors of its own.

@@ -5,6 +5,7 @@ use Prim.Native.Nat.{ℕ, suc, ◌+◌, ◌-◌, ◌≤◌}
 use native.Mathlib.Omega.{arith}
 use borrow.Author.Tests.{lt-ltb}
 use Rattle.rates.specs.Table.{weight}
+use Rattle.row_rules.specs.declared.Row.{Row}
 use Rattle.rules.specs.Rules.{first_among}
 use Rattle.row_rules.specs.Table.{row_rules, row_of, weight_before, rows_refusal}
 use Rattle.rules.proofs.RuleLaws.{first_refuses, first_passes, first_alone}
@@ -16,6 +17,10 @@ module _ (rows : List (List ℕ)) (k : ℕ) (there : k ≤ 120) where
 
   abbrev later : ℕ
   later = rows_refusal rows (k + 1) (121 - (k + 1))
+
+  -- what the code judges by is what the definition does
+  pub judged : {w : ℕ} {row : Row} → w ≡ weight_before rows k → row ≡ row_of rows k → first_among (row_rules k w row) ≡ here
+  judged e f = λ i. first_among (row_rules k (e i) (f i))
 
   unfolds : rows_refusal rows k (121 - k) ≡ first_among (here ∷ later ∷ [])
   unfolding rows_refusal

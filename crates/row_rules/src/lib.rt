@@ -4,14 +4,14 @@
 
 ghost use Rattle.std.specs.Prelude.{◌≡◌, ◌&&◌, cond, true, eqb, leb};
 ghost use Rattle.rates.specs.Table.{first_age, ages};
-ghost use Rattle.rules.specs.Refusals.{out_of_range, wrong_last_death, wrong_weight};
+ghost use Rattle.rules.specs.Refusals.{out_of_range, wrong_last_death, wrong_weight, verdict};
 ghost use Rattle.rules.specs.Rules.{first_among};
 ghost use Rattle.rules.specs.Rules.{unless as Rules·unless, between as Rules·between};
 ghost use Rattle.row_rules.specs.Table.{row_rules, row_numbers, rows_refusal};
 
-use rates::{FIRST_AGE, LAST_AGE, Rows, word};
-use rules::refusals::{OUT_OF_RANGE, WRONG_LAST_DEATH, WRONG_WEIGHT};
-use rules::{between, both, or_else, unless};
+use rates::{FIRST_AGE, LAST_AGE, Rows};
+use rules::refusals::Refusal;
+use rules::{between, unless};
 
 // The four numbers of a row, as wide as a file can hold them.
 #[derive(Clone, Copy)]
@@ -23,71 +23,63 @@ pub struct Row {
 }
 
 // A row of the table, rule 3.1.
-fn row_of(row: [u32; 4]) -> Row
-    ensures { result ≡ row_numbers row }
-{
-    let death = word(row[0]);
-    let withdrawal = word(row[1]);
-    let disability = word(row[2]);
-    let weight = word(row[3]);
-    Row {
-        death,
-        withdrawal,
-        disability,
-        weight,
+impl From<[u32; 4]> for Row {
+    ghost from_gives = { λ row r. r ≡ row_numbers row };
+
+    fn from([death, withdrawal, disability, weight]: [u32; 4]) -> Row {
+        Row {
+            death: u64::from(death),
+            withdrawal: u64::from(withdrawal),
+            disability: u64::from(disability),
+            weight: u64::from(weight),
+        }
     }
 }
 
 // Rules 3.2, 3.4 and 3.5 of the row of age k, where the age before has the weight `before`.
-pub fn row_rule(k: usize, before: u64, row: Row) -> u64
-    ensures { result ≡ first_among (row_rules k before row) }
+pub fn row_rule(k: usize, before: u64, row: Row) -> Result<(), Refusal>
+    ensures { verdict result ≡ first_among (row_rules k before row) }
 {
-    let weight = weight_rule(before, row.weight);
-    let last = or_else(last_age_rule(k, row.death), weight);
-    or_else(rates_rule(row.death, row.withdrawal, row.disability), last)
+    rates_rule(row)?;
+    last_age_rule(k, row.death)?;
+    weight_rule(before, row.weight)
 }
 
-fn rates_rule(death: u64, withdrawal: u64, disability: u64) -> u64
-    ensures { result ≡ Rules·unless (leb death 1000000 && (leb withdrawal 1000000 && leb disability 1000000)) out_of_range }
+fn rates_rule(row: Row) -> Result<(), Refusal>
+    ensures { verdict result ≡ Rules·unless (leb row.death 1000000 && (leb row.withdrawal 1000000 && leb row.disability 1000000)) out_of_range }
 {
-    let others = both(withdrawal <= 1_000_000, disability <= 1_000_000);
-    unless(both(death <= 1_000_000, others), OUT_OF_RANGE)
+    let most = 1_000_000;
+    unless(
+        row.death <= most && row.withdrawal <= most && row.disability <= most,
+        Refusal::OutOfRange,
+    )
 }
 
 // Rule 3.4: nobody lives past 120.
-fn last_age_rule(k: usize, death: u64) -> u64
-    ensures { result ≡ Rules·unless (cond (eqb k 120) (eqb death 1000000) true) wrong_last_death }
+fn last_age_rule(k: usize, death: u64) -> Result<(), Refusal>
+    ensures { verdict result ≡ Rules·unless (cond (eqb k 120) (eqb death 1000000) true) wrong_last_death }
 {
-    if k == LAST_AGE {
-        unless(death == 1_000_000, WRONG_LAST_DEATH)
-    } else {
-        0
-    }
+    unless(k != LAST_AGE || death == 1_000_000, Refusal::WrongLastDeath)
 }
 
-fn weight_rule(before: u64, weight: u64) -> u64
-    ensures { result ≡ Rules·unless (Rules·between 1000 100000 weight && leb before weight) wrong_weight }
+fn weight_rule(before: u64, weight: u64) -> Result<(), Refusal>
+    ensures { verdict result ≡ Rules·unless (Rules·between 1000 100000 weight && leb before weight) wrong_weight }
 {
     unless(
-        both(between(1000, 100_000, weight), before <= weight),
-        WRONG_WEIGHT,
+        between(1000, 100_000, weight) && before <= weight,
+        Refusal::WrongWeight,
     )
 }
 
 // The first refusal of all rows.
-pub fn rows_refusal(rows: Rows) -> u64
-    ensures { result ≡ rows_refusal rows first_age ages }
+pub fn rows_refusal(rows: Rows) -> Result<(), Refusal>
+    ensures { verdict result ≡ rows_refusal rows first_age ages }
 {
-    let mut k: usize = FIRST_AGE;
     let mut before: u64 = 0;
-    while k <= LAST_AGE {
-        let row = row_of(rows[k - FIRST_AGE]);
-        let refusal = row_rule(k, before, row);
-        if refusal != 0 {
-            return refusal;
-        }
+    for k in FIRST_AGE..=LAST_AGE {
+        let row = Row::from(rows[k - FIRST_AGE]);
+        row_rule(k, before, row)?;
         before = row.weight;
-        k += 1;
     }
-    0
+    Ok(())
 }

@@ -22,7 +22,8 @@ use Rattle.row_rules.specs.Table.{row_rules, row_numbers, weight_before}
 use Rattle.row_rules.proofs.TableLaws.{weight_passed}
 use Rattle.rules.proofs.RuleLaws.{all_kept, kept}
 use Rattle.plan.specs.declared.Amendment.{Amendment}
-use Rattle.walk.specs.Outcome.{refusal, settled}
+use Rattle.rules.specs.Outcome.{refusal}
+use Rattle.walk.specs.Settled.{settled}
 use Rattle.walk.specs.Lines.{row_form, due_age, row_refusal}
 use Rattle.walk.specs.Step.{table, right, with_row, after_row, row_line, verdict_of}
 use Rattle.walk.specs.Walk.{walk_from}

@@ -2,7 +2,7 @@
 -- before it.
 use Rattle.std.specs.Prelude.{ℕ, ◌+◌, ◌≤◌, ◌≡◌, List, [], Bool, true, length, drop}
 use Rattle.plan.specs.declared.Amendment.{Amendment}
-use Rattle.walk.specs.Outcome.{refusal}
+use Rattle.rules.specs.Outcome.{refusal}
 use Rattle.rates.specs.Table.{ages}
 use Rattle.walk.specs.Lines.{row_refusal}
 use Rattle.walk.specs.Step.{table, people}

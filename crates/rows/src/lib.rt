@@ -7,7 +7,7 @@ ghost use Rattle.fields.specs.Split.{upto_of};
 ghost use Rattle.fields.specs.Values.{line_of};
 ghost use Rattle.rules.specs.Rules.{first_among};
 ghost use Rattle.row_rules.specs.Table.{row_rules, row_numbers};
-ghost use Rattle.walk.specs.Outcome.{settled};
+ghost use Rattle.walk.specs.Settled.{settled};
 ghost use Rattle.walk.specs.Lines.{row_form};
 ghost use Rattle.rows.specs.Narrow.{four_of, RowHeld, narrow_of};
 ghost use Rattle.rows.specs.Stretch.{RowsAre};

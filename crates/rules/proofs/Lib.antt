@@ -1,3 +1,4 @@
 -- The laws of the rules.
 pub mod RuleLaws
+pub mod RefusalLaws
 pub mod TermLaws

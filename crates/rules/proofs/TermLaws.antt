@@ -1,9 +1,7 @@
 -- The laws of the terms' rules, by place and in their order.
 use mathlib.Core.Path.{◌≡◌, refl, sym, ap, ◌∙◌}
-use mathlib.Core.Logic.{⊎_elim}
 use mathlib.Core.List.{List, [], ◌∷◌, ◌++◌, append_assoc, append-nil}
 use Prim.Native.Nat.{ℕ, zero, suc, ◌+◌, ◌≤◌, ◌<◌}
-use native.Mathlib.Nat.{eq-or-lt_of_le}
 use native.Mathlib.Omega.{arith}
 use lib.ListN.{length, get_or, take, drop, drop_of_length-le, get_or-eq_default}
 use lib.Seq.{drop-cons, get_or-take}
@@ -12,9 +10,6 @@ use Rattle.rules.specs.Heading.{TermRule, term_rules, term_rule, unit_rule, aver
 use Rattle.rules.proofs.RuleLaws.{first_refuses, first_passes}
 
 -- past the last term there is no rule
-pub past : {n k : ℕ} → n ≤ k → (k ≡ n → ⊥) → n + 1 ≤ k
-past h other = ⊎_elim (λ e. absurd (other (sym e))) (λ l. omega arith) (eq-or-lt_of_le h)
-
 pub no_term : (k : ℕ) (terms : List ℕ) (v : ℕ) → 9 ≤ k → 0 ≡ term_rule k terms v
 no_term k terms v h = sym (ap (λ (r : TermRule). r terms v) (get_or-eq_default term_rules (λ b v. 0) h))
 

@@ -1,3 +1,4 @@
 pub mod Refusals
+pub mod Outcome
 pub mod Rules
 pub mod Heading

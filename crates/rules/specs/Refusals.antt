@@ -1,5 +1,9 @@
 -- The refusal numbers, rule 12.3, each by one name. 13 and 26 are retired, and no rule uses them again.
 use Rattle.std.specs.Prelude.{ℕ}
+use Rattle.std.specs.declared.result.Result.{Result}
+use Rattle.std.specs.declared.result.Result.TheVariants.{Ok, Err}
+use Rattle.rules.specs.declared.refusals.Refusal.{Refusal}
+use Rattle.rules.specs.declared.refusals.Refusal.TheVariants.{TooLarge, CutOff, BytesAfter, WrongCount, PlanForm, OutOfRange, WrongAverage, WrongLastDeath, WrongWeight, WrongAmendment, UnlistedRest, HighUnit, MemberForm, WrongId, WrongEntry, WrongAge, WrongSalary, HighBenefit, SurplusMember, WrongPerson, HighSum, NoRoom}
 
 -- ---- the file: it is too large; it ends where a line is due; bytes follow the end line; the end line has another count
 abbrev pub too_large : ℕ
@@ -72,3 +76,34 @@ high_sum = 29
 -- ---- the output: no room for the lines
 abbrev pub no_room : ℕ
 no_room = 30
+
+-- ---- what the code answers
+-- the number of each refusal
+abbrev pub number : Refusal → ℕ
+number TooLarge = too_large
+number CutOff = cut_off
+number BytesAfter = bytes_after
+number WrongCount = wrong_count
+number PlanForm = plan_form
+number OutOfRange = out_of_range
+number WrongAverage = wrong_average
+number WrongLastDeath = wrong_last_death
+number WrongWeight = wrong_weight
+number WrongAmendment = wrong_amendment
+number UnlistedRest = unlisted_rest
+number HighUnit = high_unit
+number MemberForm = member_form
+number WrongId = wrong_id
+number WrongEntry = wrong_entry
+number WrongAge = wrong_age
+number WrongSalary = wrong_salary
+number HighBenefit = high_benefit
+number SurplusMember = surplus_member
+number WrongPerson = wrong_person
+number HighSum = high_sum
+number NoRoom = no_room
+
+-- of an answer: 0 where nothing is refused, else the number
+abbrev pub verdict : {A : Type 0} → Result A Refusal → ℕ
+verdict (Ok a) = 0
+verdict (Err refusal) = number refusal

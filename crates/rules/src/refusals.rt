@@ -1,49 +1,66 @@
-// The refusal numbers of rule 12.3, each by the name that it has in specs/Refusals.antt. 13 and 26 are retired.
+// The refusals of rule 12.3, with their numbers, and where one stands. 13 and 26 are retired.
+ghost use Rattle.std.specs.Prelude.{◌≡◌};
+ghost use Rattle.rules.specs.Refusals.{number};
 
-// The file.
-pub const TOO_LARGE: u64 = 1;
+#[derive(Clone, Copy)]
+pub enum Refusal {
+    // The file.
+    TooLarge = 1,
+    CutOff = 2,
+    BytesAfter = 3,
+    WrongCount = 4,
+    // The plan.
+    PlanForm = 10,
+    OutOfRange = 11,
+    WrongAverage = 12,
+    WrongLastDeath = 14,
+    WrongWeight = 15,
+    WrongAmendment = 53,
+    UnlistedRest = 54,
+    HighUnit = 55,
+    // A line after the table.
+    MemberForm = 20,
+    WrongId = 21,
+    WrongEntry = 22,
+    WrongAge = 23,
+    WrongSalary = 24,
+    HighBenefit = 25,
+    SurplusMember = 27,
+    WrongPerson = 28,
+    HighSum = 29,
+    // The output.
+    NoRoom = 30,
+}
 
-pub const CUT_OFF: u64 = 2;
+// A refusal and its line: 0 where it is of the file as a whole, or of plain values.
+#[derive(Clone, Copy)]
+pub struct Refused {
+    pub refusal: Refusal,
+    pub line: u64,
+}
 
-pub const BYTES_AFTER: u64 = 3;
+impl Refusal {
+    // The number that is printed, and that C is given.
+    pub fn number(self) -> u64
+        ensures { result ≡ number self }
+    {
+        self as u64
+    }
 
-pub const WRONG_COUNT: u64 = 4;
+    pub fn at(self, line: u64) -> Refused
+        ensures { (result.refusal ≡ self) × (result.line ≡ line) }
+    {
+        Refused {
+            refusal: self,
+            line,
+        }
+    }
+}
 
-// The plan.
-pub const PLAN_FORM: u64 = 10;
+impl From<Refusal> for Refused {
+    ghost from_gives = { λ refusal refused. (refused.refusal ≡ refusal) × (refused.line ≡ 0) };
 
-pub const OUT_OF_RANGE: u64 = 11;
-
-pub const WRONG_AVERAGE: u64 = 12;
-
-pub const WRONG_LAST_DEATH: u64 = 14;
-
-pub const WRONG_WEIGHT: u64 = 15;
-
-pub const WRONG_AMENDMENT: u64 = 53;
-
-pub const UNLISTED_REST: u64 = 54;
-
-pub const HIGH_UNIT: u64 = 55;
-
-// A line after the table.
-pub const MEMBER_FORM: u64 = 20;
-
-pub const WRONG_ID: u64 = 21;
-
-pub const WRONG_ENTRY: u64 = 22;
-
-pub const WRONG_AGE: u64 = 23;
-
-pub const WRONG_SALARY: u64 = 24;
-
-pub const HIGH_BENEFIT: u64 = 25;
-
-pub const SURPLUS_MEMBER: u64 = 27;
-
-pub const WRONG_PERSON: u64 = 28;
-
-pub const HIGH_SUM: u64 = 29;
-
-// The output.
-pub const NO_ROOM: u64 = 30;
+    fn from(refusal: Refusal) -> Refused {
+        refusal.at(0)
+    }
+}

@@ -14,7 +14,7 @@ use Rattle.costs.specs.Valuation.{method_of, figures}
 use Rattle.parts.specs.declared.Parts.{Parts}
 use Rattle.parts.specs.Parts.{figures_from}
 use Rattle.parts.proofs.PartLaws.{own_figures}
-use Rattle.walk.specs.Outcome.{Outcome, values, refusal, and_then}
+use Rattle.rules.specs.Outcome.{Outcome, values, refusal, and_then}
 use Rattle.rule_order.proofs.ValuedLaws.{valued_is_accepted}
 use Rattle.walk.specs.Walk.{valued_plan}
 use Rattle.walk.specs.Kept.{nobody, id_before}

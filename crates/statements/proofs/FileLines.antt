@@ -19,7 +19,7 @@ use Rattle.rates.specs.Table.{ages}
 use Rattle.rules.specs.Refusals.{too_large, wrong_count, wrong_amendment}
 use Rattle.plan.specs.Numbers.{amendment_from}
 use Rattle.amendments.specs.Judging.{most_amendments, field_refusal}
-use Rattle.walk.specs.Outcome.{values, refusal}
+use Rattle.rules.specs.Outcome.{values, refusal}
 use Rattle.walk.specs.Lines.{begins, amend_form, row_form, due_age, Tail, listed, end, surplus, neither, listed_made, most_members, tail_of}
 use Rattle.walk.specs.Step.{Head, State, heading, amending, table, people, ended, wrong, right, with_amend, amend_refusal, amend_line, with_row, row_line, tail_line, verdict_of, step}
 use Rattle.walk.specs.Walk.{Case, lines_of, rest_of, case_of, closed, folded, start, walk_from, walk_of}

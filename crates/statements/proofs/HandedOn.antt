@@ -8,7 +8,7 @@ use Rattle.plan.specs.declared.Plan.{Plan}
 use Rattle.plan.specs.declared.Member.{Member}
 use Rattle.rule_order.proofs.ValuedLaws.{amended_kept}
 use Rattle.amendments.proofs.Keeping.{list_kept, few_listed}
-use Rattle.walk.specs.Outcome.{Outcome, values, refusal}
+use Rattle.rules.specs.Outcome.{Outcome, values, refusal}
 use Rattle.plan.specs.Numbers.{member_from, numbers_of}
 use Rattle.walk.specs.Lines.{most_members}
 use Rattle.walk.specs.Walk.{Case}
@@ -18,8 +18,7 @@ use Rattle.stretches.proofs.ArrayLaws.{filled_front}
 use Rattle.amend_lines.specs.Array.{list_array}
 use Rattle.amend_lines.proofs.ArrayLaws.{list_front}
 use Rattle.members.specs.Array.{array_of}
-use Rattle.casefile.specs.declared.Accepting.TheVariants.{Accepted}
-use Rattle.casefile.specs.Answers.{accepting_of, accepting}
+use Rattle.casefile.specs.Answers.{accepting_of, accepted, accepting}
 use Rattle.casefile.specs.Stored.{amendments_after, rows_after, members_after}
 use Rattle.judging.specs.Refusing.{plain_case}
 use Rattle.fitting.specs.Fitting.{fitting}
@@ -47,7 +46,7 @@ fronts c rules =
     λ i. record { plan = c.plan; amends = amends i; rows = c.rows; members = members i }
 
 module _ (room : ℕ) (s : List ℕ) where
-  handed : (o : Outcome Case) → accepting_of s ≡ o → {p : Plan} {k n : ℕ} {amendments rows members : List (List ℕ)} (old_amendments old_rows old_members : List (List ℕ)) → Accepted p k n ≡ accepting o → amendments ≡ amendments_after o old_amendments → rows ≡ rows_after o old_rows → members ≡ members_after o old_members → file_of room (plain_case p (take k amendments) rows (take n members)) ≡ fitting room s
+  handed : (o : Outcome Case) → accepting_of s ≡ o → {p : Plan} {k n : ℕ} {amendments rows members : List (List ℕ)} (old_amendments old_rows old_members : List (List ℕ)) → accepted p k n ≡ accepting o → amendments ≡ amendments_after o old_amendments → rows ≡ rows_after o old_rows → members ≡ members_after o old_members → file_of room (plain_case p (take k amendments) rows (take n members)) ≡ fitting room s
   unfolding accepting_of
   handed (values c) accepted {p} {k} {n} old_amendments old_rows old_members answer list table array =
       let terms : p ≡ c.plan = cc in

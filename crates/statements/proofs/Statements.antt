@@ -8,10 +8,9 @@ use lib.Dec.{leb}
 use lib.ListN.{length, get_or}
 use Rattle.rule_order.proofs.Facts.{plan_facts, member_facts}
 use Rattle.costs.specs.Demand3.{WithinLimits}
-use Rattle.costs.specs.declared.Valuation.TheVariants.{Valued}
 use Rattle.costs.specs.Valuation.{method_of, setting_of, figures_at, figures, valuation}
 use Rattle.costs.proofs.Answers.{valued, limited, demand_3_forms, demand_3_sharp_limits}
-use Rattle.walk.specs.Outcome.{values, refusal}
+use Rattle.rules.specs.Outcome.{values, refusal}
 use Rattle.walk.specs.Walk.{Case, valued_plan}
 use Rattle.walk.specs.Lines.{listed, tail_of}
 use Rattle.amendments.specs.Force.{as_valued}
@@ -65,7 +64,7 @@ member_close s c accepted j there =
     demand_3_sharp_limits c.plan c.amends c.rows (id_before c.members j) m (record { plan = rules.plan; member = kept }) (method_of c.plan.method) m.age (omega (arith, facts)) (omega (arith, facts))
 
 -- and are those that it has as plain values
-member_alike : (c : Case) → AcceptedCase c → (j : ℕ) → j < length c.members → valuation c.plan c.amends c.rows (get_or c.members j nobody) ≡ Valued (figures (valued_plan c) c.rows (get_or c.members j nobody))
+member_alike : (c : Case) → AcceptedCase c → (j : ℕ) → j < length c.members → valuation c.plan c.amends c.rows (get_or c.members j nobody) ≡ values (figures (valued_plan c) c.rows (get_or c.members j nobody))
 member_alike c rules j there =
     let m = get_or c.members j nobody in
     sym (valued c.plan c.amends c.rows m (accepted_alone c.plan c.amends c.rows (id_before c.members j) m rules.plan (rules.member j there)) refl)

@@ -11,7 +11,7 @@ use Rattle.costs.specs.declared.Figures.{Figures}
 use Rattle.costs.specs.Valuation.{method_of, setting_of}
 use Rattle.parts.specs.declared.Parts.{Parts}
 use Rattle.parts.specs.Parts.{parts_at, figures_from}
-use Rattle.walk.specs.Outcome.{Outcome, and_then}
+use Rattle.rules.specs.Outcome.{Outcome, and_then}
 use Rattle.walk.specs.Walk.{valued_plan}
 use Rattle.casefile.specs.Answers.{accepting_of}
 use Rattle.totals.specs.declared.Totals.{Totals}

@@ -12,19 +12,17 @@ use Rattle.amendments.specs.Force.{in_force, additions}
 use Rattle.amendments.specs.Judging.{amendments_refusal}
 use Rattle.rule_order.specs.Acceptance.{plan_refusal}
 use Rattle.costs.specs.declared.Figures.{Figures}
-use Rattle.costs.specs.declared.Valuation.TheVariants.{Valued}
 use Rattle.costs.specs.Costs.{PV*, N*, L*}
 use Rattle.costs.specs.Demand3.{FormsAgree, V_limit, N_limit, L_limit, WithinLimits}
 use Rattle.costs.specs.Valuation.{method_of, setting_of, figures, valuation, Limited}
 use Rattle.fields.specs.Text.{bytes}
 use Rattle.fields.specs.Split.{upto_of, starts_of}
-use Rattle.walk.specs.Outcome.{values, and_then}
+use Rattle.rules.specs.Outcome.{values, and_then}
 use Rattle.walk.specs.Lines.{begins, listed, end, tail_of}
 use Rattle.walk.specs.Step.{headed, amending}
 use Rattle.walk.specs.Walk.{Case, valued_plan, walk_from}
 use Rattle.walk.specs.Kept.{nobody}
-use Rattle.casefile.specs.declared.Accepting.TheVariants.{Accepted}
-use Rattle.casefile.specs.Answers.{accepting_of, accepting}
+use Rattle.casefile.specs.Answers.{accepting_of, accepted, accepting}
 use Rattle.casefile.specs.Stored.{amendments_after, rows_after, members_after}
 use Rattle.judging.specs.Refusing.{plain_case, case_refusal}
 use Rattle.written.specs.Written.{written}
@@ -43,9 +41,9 @@ pub record MemberPrinted (c : Case) (m : Member) (line : List ℕ) : Type 0 wher
   -- rule 13.2: the line shows its id and its figures, under the plan as it is valued (rule 2.13)
   pub shown : line ++ (10 ∷ []) ≡ figures_line m.id (figures (valued_plan c) c.rows m)
   -- rule 9.11, the same figures as plain values: what value_member answers
-  pub alike : valuation c.plan c.amends c.rows m ≡ Valued (figures (valued_plan c) c.rows m)
+  pub alike : valuation c.plan c.amends c.rows m ≡ values (figures (valued_plan c) c.rows m)
   -- rule 10.9: N and L lie within 15 cents of their exact fractions, N of CP within 15 × W(x) / W(y)
-  pub limited : Limited (valued_plan c) c.rows m (Valued (figures (valued_plan c) c.rows m))
+  pub limited : Limited (valued_plan c) c.rows m (values (figures (valued_plan c) c.rows m))
   -- the limits by the benefit, which are sharper, and V's
   pub close : WithinLimits (setting_of (valued_plan c) c.rows m) (method_of c.plan.method) m.age
   -- rule 10.8: the two forms of the liability are equal fractions, at each age of the member and by each method
@@ -84,7 +82,7 @@ PlanLines =
 -- as plain values
 pub record ValuedAlike (room : ℕ) (c : Case) : Type 0 where
   pub file : valued_of room (written c) ≡ fitting room (printed (valued_plan c) c.rows c.members)
-  pub member : (j : ℕ) → j < length c.members → valuation c.plan c.amends c.rows (get_or c.members j nobody) ≡ Valued (figures (valued_plan c) c.rows (get_or c.members j nobody))
+  pub member : (j : ℕ) → j < length c.members → valuation c.plan c.amends c.rows (get_or c.members j nobody) ≡ values (figures (valued_plan c) c.rows (get_or c.members j nobody))
 
 -- of all values that rule 5.7 doesn't refuse
 abbrev pub AllValuedAlike : Type 0
@@ -94,7 +92,7 @@ AllValuedAlike = (room : ℕ) (c : Case) → FullTable c.rows → case_refusal c
 abbrev pub HandedOnIsWritten : Type 0
 HandedOnIsWritten =
     (room : ℕ) (s : List ℕ) (p : Plan) (k n : ℕ) (amendments old_amendments rows old_rows members old_members : List (List ℕ))
-    → Accepted p k n ≡ accepting (accepting_of s) → amendments ≡ amendments_after (accepting_of s) old_amendments → rows ≡ rows_after (accepting_of s) old_rows → members ≡ members_after (accepting_of s) old_members
+    → accepted p k n ≡ accepting (accepting_of s) → amendments ≡ amendments_after (accepting_of s) old_amendments → rows ≡ rows_after (accepting_of s) old_rows → members ≡ members_after (accepting_of s) old_members
     → file_of room (plain_case p (take k amendments) rows (take n members)) ≡ fitting room s
 
 -- ---- independence

@@ -11,7 +11,8 @@ use native.Mathlib.Omega.{arith}
 use borrow.Author.Tests.{eq-eqb, ne_eqb}
 use Rattle.fields.specs.Split.{has_of, upto_of, past_of}
 use Rattle.fields.proofs.AnswerLaws.{GoodLine}
-use Rattle.walk.specs.Outcome.{refusal, and_then, settled}
+use Rattle.rules.specs.Outcome.{refusal, and_then}
+use Rattle.walk.specs.Settled.{settled}
 use Rattle.walk.specs.Step.{State, Verdict, wrong, right, verdict_of, step}
 use Rattle.walk.specs.Walk.{closed, walk_from}
 use Rattle.walk.proofs.OutcomeLaws.{settled_none}

@@ -4,7 +4,6 @@
 // tests/case_files.py.
 #![tactic(auto)]
 
-use casefile::{Accepting, Reading};
 use plan::{Amendments, MOST_AMENDMENTS, MOST_MEMBERS, Members, Plan};
 use rates::{AGES, Rows};
 use std::io;
@@ -64,8 +63,8 @@ fn answered(rt: &impl Print, input: &mut impl Read, bytes: &mut [u8]) -> io::Res
 
 fn reading(rt: &impl Print, case: &[u8]) -> io::Result<()> {
     match casefile::read_case(case) {
-        Reading::Read => println!(rt; "read"),
-        Reading::Refused(number, line) => refused(rt, number, line),
+        Ok(()) => println!(rt; "read"),
+        Err(e) => refused(rt, e),
     }
 }
 
@@ -74,17 +73,17 @@ fn accepting(rt: &impl Print, case: &[u8]) -> io::Result<()> {
     let mut rows = [[0u32; 4]; AGES];
     let mut members = [[0u64; 5]; MOST_MEMBERS];
     match casefile::accept_case(case, &mut amendments, &mut rows, &mut members) {
-        Accepting::Accepted(p, listed, count) => {
+        Ok(outline) => {
             print!(rt; "accepted=")?;
-            terms(rt, p)?;
-            term(rt, listed)?;
-            print!(rt; "{count}")?;
-            next(rt, sum_of_amendments(amendments, listed))?;
+            terms(rt, outline.plan)?;
+            term(rt, outline.amendments)?;
+            print!(rt; "{}", outline.members)?;
+            next(rt, sum_of_amendments(amendments, outline.amendments))?;
             next(rt, sum_of_rows(rows))?;
-            next(rt, sum_of_members(members, count))?;
+            next(rt, sum_of_members(members, outline.members))?;
             println!(rt; "")
         }
-        Accepting::Refused(number, line) => refused(rt, number, line),
+        Err(e) => refused(rt, e),
     }
 }
 

@@ -4,11 +4,10 @@
 // tests/case_prints.py.
 #![tactic(auto)]
 
-use fitting::Answer;
 use std::io;
 use std::io::Read;
 use test_support::{fill, number_at, refused};
-use valuation::print_case;
+use valuation::{Refused, print_case};
 
 // The longest file that is tried.
 const LARGEST: usize = 70_000;
@@ -89,9 +88,9 @@ fn answered(rt: &impl Print, case: &[u8], out: &mut [u8]) -> io::Result<bool> {
     Ok(true)
 }
 
-fn answer(rt: &impl Print, said: Answer) -> io::Result<()> {
+fn answer(rt: &impl Print, said: Result<usize, Refused>) -> io::Result<()> {
     match said {
-        Answer::Written(n) => println!(rt; "written={n}"),
-        Answer::Refused(number, line) => refused(rt, number, line),
+        Ok(n) => println!(rt; "written={n}"),
+        Err(e) => refused(rt, e),
     }
 }

@@ -9,9 +9,10 @@
 
 ghost use Rattle.std.specs.Prelude.{◌+◌, ◌≤◌, ◌<◌};
 
-use acceptance::{Acceptance, accept_member, accept_plan};
-use costs::{Figures, Valuation};
+use acceptance::{accept_member, accept_plan};
+use costs::Figures;
 use plan::{Member, Plan};
+use rules::refusals::Refused;
 use std::io;
 use std::io::Read;
 use test_support::{fill, next, number_at, refused, rows_at};
@@ -75,15 +76,15 @@ fn answer(rt: &impl Print, bytes: &[u8; SIZE], amendments: &[[u64; 4]]) -> io::R
     accepting(rt, accept_plan(p, amendments, rows))?;
     accepting(rt, accept_member(p, amendments, rows, m))?;
     match plain_engine::value_member(p, amendments, rows, m) {
-        Valuation::Valued(f) => figures(rt, f),
-        Valuation::Refused(number, line) => refused(rt, number, line),
+        Ok(f) => figures(rt, f),
+        Err(e) => refused(rt, e),
     }
 }
 
-fn accepting(rt: &impl Print, answer: Acceptance) -> io::Result<()> {
+fn accepting(rt: &impl Print, answer: Result<(), Refused>) -> io::Result<()> {
     match answer {
-        Acceptance::Accepted => println!(rt; "accepted"),
-        Acceptance::Refused(number, line) => refused(rt, number, line),
+        Ok(()) => println!(rt; "accepted"),
+        Err(e) => refused(rt, e),
     }
 }
 

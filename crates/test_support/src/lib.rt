@@ -5,6 +5,7 @@
 ghost use Rattle.std.specs.Prelude.{◌+◌, ◌≤◌, ◌<◌, length};
 
 use rates::{AGES, Rows};
+use rules::refusals::Refused;
 use std::io;
 use std::io::{ErrorKind, Read};
 
@@ -64,6 +65,6 @@ pub fn next(rt: &impl Print, number: u64) -> io::Result<()> {
 }
 
 // Writes the line of a refusal.
-pub fn refused(rt: &impl Print, number: u64, line: u64) -> io::Result<()> {
-    println!(rt; "refused={number},{line}")
+pub fn refused(rt: &impl Print, refused: Refused) -> io::Result<()> {
+    println!(rt; "refused={},{}", refused.refusal.number(), refused.line)
 }

@@ -13,7 +13,7 @@ use Rattle.plan.specs.declared.Member.{Member}
 use Rattle.rule_order.proofs.Facts.{id_small, member_facts}
 use Rattle.members.specs.Array.{member_at, array_of}
 use Rattle.members.proofs.ArrayLaws.{array_member}
-use Rattle.walk.specs.Outcome.{Outcome, values, refusal, and_then}
+use Rattle.rules.specs.Outcome.{Outcome, values, refusal, and_then}
 use Rattle.amendments.specs.Force.{amendments_from, as_valued}
 use Rattle.amendments.proofs.Keeping.{list_kept, few_listed}
 use Rattle.rule_order.proofs.ValuedLaws.{amended_kept}

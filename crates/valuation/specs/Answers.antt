@@ -1,11 +1,9 @@
 -- The answers for a case file: that of `value_case`, and what the program prints.
 use Rattle.std.specs.Prelude.{◌≡◌, cond, List, ℕ, leb, length}
-use Rattle.walk.specs.Outcome.{Outcome, values, refusal, and_then}
+use Rattle.rules.specs.Outcome.{Outcome, values, refusal, and_then}
 use Rattle.walk.specs.Walk.{valued_plan}
 use Rattle.casefile.specs.Answers.{accepting_of}
 use Rattle.report.specs.Lines.{printed, refusal_line}
-use Rattle.fitting.specs.declared.Answer.{Answer}
-use Rattle.fitting.specs.declared.Answer.TheVariants.{Written}
 use Rattle.fitting.specs.Fitting.{fitting}
 
 -- rule 12.4, a case file: its first refusal, 30 after all others; else the lines, of the plan as it is valued
@@ -20,7 +18,3 @@ or_refusal room (refusal number line) =
 
 unfoldable pub program_of : (room : ℕ) → List ℕ → Outcome (List ℕ)
 program_of room case = or_refusal room (valued_of room case)
-
--- bytes were written
-abbrev pub Writes : Answer → Type 0
-Writes r = (n : ℕ) × (r ≡ Written n)

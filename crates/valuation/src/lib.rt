@@ -4,50 +4,50 @@
 // refusal_line, read_case, accept_case, accept_plan, accept_member, value_member. None has a `requires`.
 #![tactic(auto)]
 
-ghost use Rattle.std.specs.Prelude.{◌≡◌, ◌≤◌, length};
-ghost use Rattle.walk.specs.Outcome.{refusal};
+ghost use Rattle.std.specs.Prelude.{◌≡◌, ◌≤◌, length, IsOk};
+ghost use Rattle.rules.specs.Refusals.{number};
+ghost use Rattle.rules.specs.Outcome.{outcome, refusal};
 ghost use Rattle.report.specs.Lines.{printed};
 ghost use Rattle.fitting.specs.Fitting.{fitting, answer, buffer};
-ghost use Rattle.valuation.specs.Answers.{valued_of, or_refusal, program_of, Writes};
+ghost use Rattle.valuation.specs.Answers.{valued_of, or_refusal, program_of};
 ghost use Rattle.all_figures.specs.Worked.{AcceptedMembers, members_in};
 
-pub use acceptance::{Acceptance, accept_member, accept_plan};
+pub use acceptance::{accept_member, accept_plan};
 use amending::as_valued;
-pub use casefile::{Accepting, Reading, accept_case, read_case};
-pub use costs::{Figures, Valuation};
+pub use casefile::{accept_case, read_case};
+pub use costs::Figures;
 use fitting::fit_lines;
-pub use fitting::{Answer, refusal_line};
+pub use fitting::refusal_line;
 use funding::{supplemental_of, unfunded_of};
 pub use plain_engine::value_member;
 pub use plan::{Amendments, Member, Plan};
 use plan::{MOST_AMENDMENTS, MOST_MEMBERS, Members};
 use rates::{AGES, Rows};
+pub use rules::refusals::{Refusal, Refused};
 pub use totals::EngineChoice;
 use totals::work;
+pub use whole_walk::Outline;
 
 // Values a case file: the lines of its members and of the plan, at the start of `out`, or a refusal.
-pub fn value_case(case: &[u8], out: &mut [u8]) -> Answer
-    ensures value { result ≡ answer (valued_of (length out.old) case.now) }
+pub fn value_case(case: &[u8], out: &mut [u8]) -> Result<usize, Refused>
+    ensures value { outcome result ≡ answer (valued_of (length out.old) case.now) }
     ensures out_after { out.new ≡ buffer (valued_of (length out.old) case.now) out.old }
 {
     value_case_by(EngineChoice::ByCount, case, out)
 }
 
 // The same by an engine that the caller chooses: the answer and every byte are those.
-pub fn value_case_by(engine: EngineChoice, case: &[u8], out: &mut [u8]) -> Answer
-    ensures value { result ≡ answer (valued_of (length out.old) case.now) }
+pub fn value_case_by(engine: EngineChoice, case: &[u8], out: &mut [u8]) -> Result<usize, Refused>
+    ensures value { outcome result ≡ answer (valued_of (length out.old) case.now) }
     ensures out_after { out.new ≡ buffer (valued_of (length out.old) case.now) out.old }
 {
-    let mut amendments = [[0u64; 4]; MOST_AMENDMENTS];
-    let mut rows = [[0u32; 4]; AGES];
-    let mut members = [[0u64; 5]; MOST_MEMBERS];
-    match accept_case(case, &mut amendments, &mut rows, &mut members) {
-        Accepting::Accepted(p, listed, count) => {
-            let valued = as_valued(p, &amendments[..listed as usize]);
-            value_accepted(engine, valued, rows, &members, count, out)
-        }
-        Accepting::Refused(number, line) => Answer::Refused(number, line),
-    }
+    let mut amendments = [[0; 4]; MOST_AMENDMENTS];
+    let mut rows = [[0; 4]; AGES];
+    let mut members = [[0; 5]; MOST_MEMBERS];
+    let outline = accept_case(case, &mut amendments, &mut rows, &mut members)?;
+    let listed = &amendments[..outline.amendments as usize];
+    let valued = as_valued(outline.plan, listed);
+    value_accepted(engine, valued, rows, &members, outline.members, out)
 }
 
 // Values an accepted case, under the plan as it is valued.
@@ -58,9 +58,9 @@ fn value_accepted(
     members: &Members,
     count: u64,
     out: &mut [u8],
-) -> Answer
+) -> Result<usize, Refused>
     requires { AcceptedMembers p rows members.now count }
-    ensures value { result ≡ answer (fitting (length out.old) (printed p rows (members_in members.now count))) }
+    ensures value { outcome result ≡ answer (fitting (length out.old) (printed p rows (members_in members.now count))) }
     ensures out_after { out.new ≡ buffer (fitting (length out.old) (printed p rows (members_in members.now count))) out.old }
 {
     let mut worked = [[0u64; 4]; MOST_MEMBERS];
@@ -72,25 +72,22 @@ fn value_accepted(
 
 // Rule 13.1, what the program prints of a case file, at the start of `out`: its lines, or the one line of its refusal.
 // Where that line too is longer than `out`, the refusal is answered as it is; with 50 bytes something is always written.
-pub fn print_case(case: &[u8], out: &mut [u8]) -> Answer
-    ensures value { result ≡ answer (program_of (length out.old) case.now) }
+pub fn print_case(case: &[u8], out: &mut [u8]) -> Result<usize, Refused>
+    ensures value { outcome result ≡ answer (program_of (length out.old) case.now) }
     ensures out_after { out.new ≡ buffer (program_of (length out.old) case.now) out.old }
-    ensures writes { 50 ≤ length out.old → Writes result }
+    ensures writes { 50 ≤ length out.old → IsOk result }
 {
     match value_case(case, out) {
-        Answer::Written(n) => Answer::Written(n),
-        Answer::Refused(number, line) => print_refusal(number, line, out),
+        Ok(n) => Ok(n),
+        Err(refused) => print_refusal(refused, out),
     }
 }
 
 // The line of a refusal, at the start of `out`; where it is longer than that, the refusal itself.
-fn print_refusal(number: u64, line: u64, out: &mut [u8]) -> Answer
-    ensures value { result ≡ answer (or_refusal (length out.old) (refusal number line)) }
-    ensures out_after { out.new ≡ buffer (or_refusal (length out.old) (refusal number line)) out.old }
-    ensures writes { 50 ≤ length out.old → Writes result }
+fn print_refusal(refused: Refused, out: &mut [u8]) -> Result<usize, Refused>
+    ensures value { outcome result ≡ answer (or_refusal (length out.old) (refusal (number refused.refusal) refused.line)) }
+    ensures out_after { out.new ≡ buffer (or_refusal (length out.old) (refusal (number refused.refusal) refused.line)) out.old }
+    ensures writes { 50 ≤ length out.old → IsOk result }
 {
-    match refusal_line(number, line, out) {
-        Answer::Written(n) => Answer::Written(n),
-        Answer::Refused(_, _) => Answer::Refused(number, line),
-    }
+    refusal_line(refused.refusal.number(), refused.line, out).or(Err(refused))
 }

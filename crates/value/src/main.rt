@@ -5,11 +5,10 @@
 #![tactic(auto)]
 
 ghost use Rattle.std.specs.Prelude.{◌≡◌, ◌≤◌, length, IfOk};
-ghost use Rattle.fitting.specs.declared.Answer.TheVariants.{Written};
+ghost use Rattle.rules.specs.Outcome.{values};
 ghost use Rattle.fitting.specs.Fitting.{answer, buffer};
 ghost use Rattle.valuation.specs.Answers.{program_of};
 
-use fitting::Answer;
 use std::io;
 use std::io::Read;
 use valuation::print_case;
@@ -53,13 +52,10 @@ fn read_full(input: &mut impl Read, case: &mut [u8]) -> io::Result<usize>
 // the one line of a refusal.
 fn print(case: &[u8], out: &mut [u8]) -> usize
     requires { length out.old ≡ 65536 }
-    ensures result_value { Written result ≡ answer (program_of 65536 case.now) }
+    ensures result_value { values result ≡ answer (program_of 65536 case.now) }
     ensures out_after { out.new ≡ buffer (program_of 65536 case.now) out.old }
 {
-    match print_case(case, out) {
-        Answer::Written(n) => n,
-        Answer::Refused(_, _) => 0,
-    }
+    print_case(case, out).unwrap_or(0)
 }
 
 // Writes the first n bytes.

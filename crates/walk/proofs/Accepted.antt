@@ -25,7 +25,7 @@ use Rattle.rules.proofs.RuleLaws.{AllKept, all_kept, kept_all}
 use Rattle.rule_order.proofs.Facts.{line_kept}
 use Rattle.rule_order.proofs.ValuedLaws.{amended_kept, kept_amended}
 use Rattle.rule_order.proofs.SumLaws.{sum_both, sum_next}
-use Rattle.walk.specs.Outcome.{values, refusal}
+use Rattle.rules.specs.Outcome.{values, refusal}
 use Rattle.walk.specs.Terms.{term_forms, term_refusal}
 use Rattle.walk.specs.Lines.{due_age, row_refusal}
 use Rattle.walk.specs.Step.{Head, plan_in, State, heading, amending, table, people, ended, last_id, sum_in, refusal_after}

@@ -7,7 +7,8 @@ use mathlib.Core.Logic.{◌⊎◌, inl, inr, ⊎_elim, ◌↔◌}
 use lib.ListN.{length}
 use native.Mathlib.Omega.{arith}
 use native.Mathlib.Nat.{add-zero}
-use Rattle.walk.specs.Outcome.{Outcome, values, refusal, and_then, settled}
+use Rattle.rules.specs.Outcome.{Outcome, values, refusal, and_then}
+use Rattle.walk.specs.Settled.{settled}
 use Rattle.walk.specs.Step.{State, Verdict, wrong, right, verdict_of, judged, step}
 use Rattle.walk.specs.Walk.{Case, next_of, closed, folded}
 use Rattle.rules.specs.Refusals.{out_of_range, wrong_amendment}

@@ -12,7 +12,7 @@ use borrow.Author.Tests.{lt-ltb}
 use Rattle.fields.specs.Split.{has_of, upto_of, past_of}
 use Rattle.fields.proofs.SplitLaws.{off}
 use Rattle.fields.proofs.LineLaws.{upto_all}
-use Rattle.walk.specs.Outcome.{Outcome, and_then}
+use Rattle.rules.specs.Outcome.{Outcome, and_then}
 use Rattle.walk.specs.Step.{State, step}
 use Rattle.walk.specs.Walk.{Case, lines_of, rest_of, next_of, closed, folded, walk_from}
 use Rattle.walk.proofs.OutcomeLaws.{then_then}

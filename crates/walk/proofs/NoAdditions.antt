@@ -17,7 +17,8 @@ use Rattle.plan.specs.Numbers.{plan_from}
 use Rattle.amendments.specs.Force.{in_force_after, in_force, additions}
 use Rattle.amendments.proofs.Putting.{no_additions}
 use Rattle.rule_order.specs.Acceptance.{person_sum, line_refusal}
-use Rattle.walk.specs.Outcome.{Outcome, values, refusal, and_then, settled}
+use Rattle.rules.specs.Outcome.{Outcome, values, refusal, and_then}
+use Rattle.walk.specs.Settled.{settled}
 use Rattle.walk.specs.Lines.{begins, due_age, row_form, Tail, listed, end, surplus, neither, most_members, tail_of}
 use Rattle.walk.specs.Step.{Head, plan_in, headed, State, amending, table, people, ended, Verdict, wrong, right, row_line, last_id, tail_line, verdict_of, judged, step}
 use Rattle.walk.specs.Walk.{Case, lines_of, rest_of, next_of, closed, folded, walk_from}

@@ -4,7 +4,8 @@ use mathlib.Core.Path.{◌≡◌, refl}
 use mathlib.Core.Bool.{Bool, true, false}
 use lib.Dec.{eqb-suc-zero}
 use native.Mathlib.Omega.{arith}
-use Rattle.walk.specs.Outcome.{Outcome, values, refusal, and_then, passing, settled}
+use Rattle.rules.specs.Outcome.{Outcome, values, refusal, and_then, passing}
+use Rattle.walk.specs.Settled.{settled}
 
 pub no_values : {A B : Type 0} {n l : ℕ} {a : A} → refusal n l ≡ values a → B
 no_values e = let z : ◌≡◌ {A = ℕ} 0 1 = cc in absurd (omega arith)

@@ -22,7 +22,8 @@ use Rattle.rules.specs.Heading.{unit_most}
 use Rattle.amendments.specs.Force.{unit_valued}
 use Rattle.amendments.specs.Judging.{most_amendments, field_refusal, amendment_refusal, unit_refusal}
 use Rattle.plan.specs.declared.Amendment.{Amendment}
-use Rattle.walk.specs.Outcome.{Outcome, values, refusal, and_then, passing, settled}
+use Rattle.rules.specs.Outcome.{Outcome, values, refusal, and_then, passing}
+use Rattle.walk.specs.Settled.{settled}
 use Rattle.walk.specs.Lines.{begins, amend_form, due_age, row_form}
 use Rattle.walk.specs.Step.{Head, State, heading, amending, table, people, ended, Verdict, wrong, right, with_amend, amend_refusal, amend_line, row_line, verdict_of, judged, step}
 use Rattle.walk.specs.Walk.{Case, lines_of, rest_of, closed, start, walk_from, walk_of}

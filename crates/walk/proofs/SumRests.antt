@@ -8,7 +8,8 @@ use lib.Dec.{leb, eqb, eqb-suc-zero}
 use native.Mathlib.Omega.{arith}
 use Rattle.plan.specs.declared.Member.{Member}
 use Rattle.rules.specs.Refusals.{wrong_count}
-use Rattle.walk.specs.Outcome.{values, refusal, passing, settled}
+use Rattle.rules.specs.Outcome.{values, refusal, passing}
+use Rattle.walk.specs.Settled.{settled}
 use Rattle.walk.specs.Lines.{Tail, listed, end, surplus, neither, most_members, tail_of}
 use Rattle.walk.specs.Step.{Head, State, people, ended, wrong, right, last_id, sum_in, refusal_after, tail_line, judged, verdict_of, step}
 use Rattle.walk.specs.Answers.{RestsOnIdAndSum}

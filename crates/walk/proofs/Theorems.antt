@@ -9,7 +9,7 @@ use lib.Dec.{ltb, eqb, eqb-suc-zero}
 use native.Mathlib.Omega.{arith}
 use Rattle.fields.proofs.SplitLaws.{off}
 use Rattle.rules.specs.Refusals.{cut_off, bytes_after}
-use Rattle.walk.specs.Outcome.{Outcome, values, refusal}
+use Rattle.rules.specs.Outcome.{Outcome, values, refusal}
 use Rattle.walk.specs.Terms.{term_forms}
 use Rattle.walk.specs.Lines.{begins}
 use Rattle.walk.specs.Step.{State, heading, amending, table, people, ended, Verdict, wrong, right, verdict_of, judged, step}

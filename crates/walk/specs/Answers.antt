@@ -7,7 +7,7 @@ use Rattle.amendments.specs.Force.{in_force, additions}
 use Rattle.amendments.specs.Judging.{most_amendments}
 use Rattle.plan.specs.declared.Amendment.{Amendment}
 use Rattle.plan.specs.declared.Member.{Member}
-use Rattle.walk.specs.Outcome.{Outcome, values, refusal}
+use Rattle.rules.specs.Outcome.{Outcome, values, refusal}
 use Rattle.walk.specs.Terms.{term_forms}
 use Rattle.walk.specs.Lines.{begins, listed, most_members, tail_of}
 use Rattle.walk.specs.Step.{Head, headed, amending, people, last_id, sum_in, step}

@@ -1,5 +1,5 @@
 -- The walk over a case file, in the order in which it is built.
-pub mod Outcome
+pub mod Settled
 pub mod Terms
 pub mod Lines
 pub mod Step

@@ -16,7 +16,8 @@ use Rattle.row_rules.specs.Table.{row_rules}
 use Rattle.amendments.specs.Force.{listed as listedAmong, stands, in_force_after, additions, as_valued, amend}
 use Rattle.amendments.specs.Judging.{most_amendments, field_refusal, amendment_rules, amendment_refusal, unit_refusal, many}
 use Rattle.rule_order.specs.Acceptance.{person_sum, line_refusal}
-use Rattle.walk.specs.Outcome.{Outcome, values, refusal, passing, settled}
+use Rattle.rules.specs.Outcome.{Outcome, values, refusal, passing}
+use Rattle.walk.specs.Settled.{settled}
 use Rattle.walk.specs.Terms.{term_forms, term_form, term_refusal}
 use Rattle.walk.specs.Lines.{begins, amend_form, row_form, due_age, row_refusal, Tail, listed, end, surplus, neither, most_members, tail_of}
 

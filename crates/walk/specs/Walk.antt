@@ -5,7 +5,7 @@ use Rattle.plan.specs.declared.Plan.{Plan}
 use Rattle.plan.specs.declared.Amendment.{Amendment}
 use Rattle.plan.specs.declared.Member.{Member}
 use Rattle.rules.specs.Refusals.{too_large, cut_off, bytes_after}
-use Rattle.walk.specs.Outcome.{Outcome, values, refusal, and_then}
+use Rattle.rules.specs.Outcome.{Outcome, values, refusal, and_then}
 use Rattle.plan.specs.Numbers.{plan_from}
 use Rattle.amendments.specs.Force.{as_valued}
 use Rattle.walk.specs.Step.{Head, State, heading, amending, table, people, ended, step}

@@ -13,7 +13,7 @@ use Rattle.amendments.specs.Force.{amendments_from, as_valued}
 use Rattle.amendments.proofs.Keeping.{list_kept}
 use Rattle.rule_order.specs.Acceptance.{plan_refusal}
 use Rattle.rule_order.proofs.ValuedLaws.{valued_is_accepted}
-use Rattle.walk.specs.Outcome.{refusal}
+use Rattle.rules.specs.Outcome.{refusal}
 use Rattle.walk.specs.Terms.{term_forms}
 use Rattle.walk.specs.Step.{Head, headed, amending, table}
 use Rattle.walk.specs.Walk.{case_of, start, walk_from, walk_of}

@@ -5,7 +5,7 @@ use Rattle.plan.specs.declared.Member.{Member}
 use Rattle.plan.specs.Numbers.{plan_from}
 use Rattle.amendments.specs.Force.{amendments_from}
 use Rattle.amendments.specs.Judging.{amendments_refusal}
-use Rattle.walk.specs.Outcome.{Outcome, values, refusal}
+use Rattle.rules.specs.Outcome.{Outcome, values, refusal}
 use Rattle.walk.specs.Step.{Head, table}
 use Rattle.walk.specs.Walk.{Case, case_of, walk_from}
 use Rattle.stretches.specs.Heads.{tabled}

@@ -17,7 +17,7 @@ use Rattle.row_rules.specs.Table.{row_rules}
 use Rattle.amendments.specs.Force.{listed as listedAmong, stands, in_force_after, additions}
 use Rattle.amendments.specs.Judging.{amendment_rules, unit_refusal}
 use Rattle.rule_order.specs.Acceptance.{field_rules, benefit_rules, member_refusal, person_sum, line_refusal}
-use Rattle.walk.specs.Outcome.{Outcome, values, refusal}
+use Rattle.rules.specs.Outcome.{Outcome, values, refusal}
 use Rattle.walk.specs.Terms.{formula_word, method_word, term_forms}
 use Rattle.walk.specs.Lines.{amend_form, row_form, listed, end, surplus, neither, tail_of}
 use Rattle.walk.specs.Step.{verdict_of, step}

@@ -7,7 +7,7 @@ use native.Mathlib.Omega.{arith}
 use lib.Dec.{leb, eqb}
 use lib.ListN.{length}
 use borrow.Author.Tests.{eqb-true, le-leb}
-use Rattle.walk.specs.Outcome.{values, refusal}
+use Rattle.rules.specs.Outcome.{values, refusal}
 use Rattle.walk.specs.Walk.{walk_of}
 use Rattle.walk.proofs.OutcomeLaws.{no_values, values_one, passed}
 use Rattle.walk.proofs.Accepted.{accepted_keeps}

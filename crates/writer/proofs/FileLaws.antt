@@ -12,7 +12,7 @@ use Rattle.amendments.specs.Force.{amendments_from}
 use Rattle.amendments.proofs.Keeping.{list_kept, few_listed}
 use Rattle.rule_order.proofs.ValuedLaws.{amended_kept}
 use Rattle.plan.specs.declared.Plan.{Plan}
-use Rattle.walk.specs.Outcome.{refusal as refused-at}
+use Rattle.rules.specs.Outcome.{refusal as refused-at}
 use Rattle.walk.specs.Walk.{Case}
 use Rattle.printing.specs.Puts.{Puts}
 use Rattle.judging.specs.Refusing.{plain_case, case_refusal}

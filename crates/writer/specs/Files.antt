@@ -5,7 +5,7 @@ use Rattle.rules.specs.Heading.{head_rules}
 use Rattle.row_rules.specs.Table.{row_rules, rows_refusal}
 use Rattle.amendments.specs.Judging.{unit_refusal, each_refusal, amendments_refusal}
 use Rattle.rule_order.specs.Acceptance.{amended_refusal}
-use Rattle.walk.specs.Outcome.{Outcome, refusal, passing}
+use Rattle.rules.specs.Outcome.{Outcome, refusal, passing}
 use Rattle.walk.specs.Walk.{Case}
 use Rattle.judging.specs.Refusing.{members_refusal, case_refusal}
 use Rattle.written.specs.Written.{written}

@@ -1,6 +1,6 @@
 -- Rule 13.8 of what `write_case` answers. Proved in proofs/Copies.antt.
 use Rattle.std.specs.Prelude.{◌≡◌, List, true, ℕ, ◌≤◌}
-use Rattle.walk.specs.Outcome.{values, refusal}
+use Rattle.rules.specs.Outcome.{values, refusal}
 use Rattle.walk.specs.Walk.{Case, walk_of}
 use Rattle.judging.specs.Refusing.{case_refusal}
 use Rattle.written.specs.Statements.{FullTable, most_written}

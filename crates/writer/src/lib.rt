@@ -4,17 +4,17 @@
 #![tactic(auto)]
 
 ghost use Rattle.std.specs.Prelude.{◌≡◌, leb, length};
+ghost use Rattle.rules.specs.Outcome.{outcome};
 ghost use Rattle.judging.specs.Refusing.{plain_case, case_refusal};
 ghost use Rattle.written.specs.Written.{written};
 ghost use Rattle.fitting.specs.Fitting.{answer, buffer};
 ghost use Rattle.writer.specs.Files.{file_of};
 
 use case_lines::write_case_lines;
-use fitting::Answer;
 use judging::case_refusal;
 use plan::Plan;
 use rates::Rows;
-use rules::refusals::NO_ROOM;
+use rules::refusals::{Refusal, Refused};
 
 // Rule 13.9: the longest file that an accepted case has.
 const LONGEST_FILE: usize = 48_624;
@@ -45,17 +45,13 @@ pub fn write_case(
     rows: Rows,
     members: &[[u64; 5]],
     out: &mut [u8],
-) -> Answer
-    ensures value { result ≡ answer (file_of (length out.old) (plain_case p amendments.now rows members.now)) }
+) -> Result<usize, Refused>
+    ensures value { outcome result ≡ answer (file_of (length out.old) (plain_case p amendments.now rows members.now)) }
     ensures out_after { out.new ≡ buffer (file_of (length out.old) (plain_case p amendments.now rows members.now)) out.old }
 {
-    let refusal = case_refusal(p, amendments, &rows, members);
-    if refusal != 0 {
-        return Answer::Refused(refusal, 0);
-    }
+    case_refusal(p, amendments, &rows, members)?;
     if !file_fits(out.len(), p, amendments, rows, members) {
-        return Answer::Refused(NO_ROOM, 0);
+        return Err(Refusal::NoRoom.into());
     }
-    let end = write_case_lines(out, p, amendments, &rows, members);
-    Answer::Written(end)
+    Ok(write_case_lines(out, p, amendments, &rows, members))
 }

@@ -14,7 +14,7 @@ use Rattle.plan.specs.declared.Member.{Member}
 use Rattle.plan.specs.Numbers.{amendment_from}
 use Rattle.amendments.specs.Judging.{most_amendments, field_refusal}
 use Rattle.rules.specs.Refusals.{wrong_count, wrong_amendment}
-use Rattle.walk.specs.Outcome.{values}
+use Rattle.rules.specs.Outcome.{values}
 use Rattle.walk.specs.Terms.{term_forms, term_form}
 use Rattle.walk.specs.Lines.{begins, amend_form, row_form, due_age, Tail, listed, end, surplus, neither, most_members, tail_of}
 use Rattle.walk.specs.Step.{Head, headed, State, heading, amending, table, people, ended, wrong, right, term_line, with_amend, amend_refusal, amend_line, with_row, tail_line, verdict_of, step}

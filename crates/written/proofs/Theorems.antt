@@ -10,7 +10,7 @@ use borrow.Author.Tests.{le-ltb}
 use Rattle.rates.specs.Table.{first_age}
 use Rattle.plan.specs.declared.Member.{Member}
 use Rattle.plan.specs.Numbers.{terms_of, plan_from}
-use Rattle.walk.specs.Outcome.{values}
+use Rattle.rules.specs.Outcome.{values}
 use Rattle.walk.specs.Terms.{term_forms, term_form}
 use Rattle.walk.specs.Step.{Head, headed, State, heading, amending, table, people, ended}
 use Rattle.walk.specs.Walk.{Case, lines_of, rest_of, case_of, closed, folded, start, walk_of}

@@ -15,7 +15,7 @@ use Rattle.plan.specs.declared.Member.{Member}
 use Rattle.rules.specs.Refusals.{wrong_count, wrong_amendment}
 use Rattle.plan.specs.Numbers.{amendment_from, fields_of}
 use Rattle.amendments.specs.Judging.{most_amendments, field_refusal}
-use Rattle.walk.specs.Outcome.{values}
+use Rattle.rules.specs.Outcome.{values}
 use Rattle.walk.specs.Terms.{term_forms, term_form, term_refusal}
 use Rattle.walk.specs.Lines.{amend_form, row_form, due_age, row_refusal, Tail, listed, end, surplus, neither, most_members, tail_of}
 use Rattle.walk.specs.Step.{Head, headed, State, heading, amending, table, people, ended, right, wrong, after_term, term_line, with_amend, amend_refusal, amend_line, with_row, after_row, refusal_after, tail_line, verdict_of, step}

@@ -1,7 +1,7 @@
 -- Rules 13.8 and 13.9: reading and writing undo each other. `walk_of false` reads a file for its form, `walk_of true` accepts it.
 use Rattle.std.specs.Prelude.{◌≡◌, List, [], Bool, true, ◌↔◌, ℕ, ◌≤◌, ◌<◌, length, get_or}
 use Rattle.rates.specs.Table.{ages}
-use Rattle.walk.specs.Outcome.{values}
+use Rattle.rules.specs.Outcome.{values}
 use Rattle.walk.specs.Walk.{Case, walk_of}
 use Rattle.walk.specs.Kept.{AcceptedCase}
 use Rattle.written.specs.Written.{written}

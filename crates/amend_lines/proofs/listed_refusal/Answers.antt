@@ -10,7 +10,7 @@ use Rattle.plan.specs.declared.Amendment.{Amendment}
 use Rattle.plan.specs.Numbers.{fields_of}
 use Rattle.amendments.specs.Force.{amendments_from}
 use Rattle.amendments.specs.Judging.{amendment_refusal, unit_refusal, each_refusal}
-use Rattle.walk.specs.Outcome.{settled}
+use Rattle.walk.specs.Settled.{settled}
 use Rattle.amend_lines.specs.Stretch.{refusal_of}
 use Rattle.amend_lines.proofs.RefusalLaws.{settled_first, settled_second, refusal_surplus, refusal_listed, surplus_some, stored, many, kept_next}
 use Rattle.amend_lines.proofs.listed_refusal.Goals as goal

@@ -1,9 +1,17 @@
 -- `row_rules::row_rule` meets its contract.
+use Rattle.std.proofs.Common.{rules}
 use Rattle.row_rules.specs.Table.{row_rules}
-use Rattle.rules.proofs.RuleLaws.{in_order, last_in_order}
+use Rattle.rules.proofs.RefusalLaws.{goes_on, refuses, is_last}
 use Rattle.row_rules.proofs.row_rule.Goals as goal
 
 pub returns : goal.returns
 unfolding row_rules
-returns c = in_order c.or_else.ensures c.rates_rule.ensures
-    (last_in_order c.or_else-last.ensures c.last_age_rule.ensures c.weight_rule-weight.ensures)
+returns c = search (rules, goes_on, is_last)
+
+pub returns-in_err-rates_rule : goal.returns-in_err-rates_rule
+unfolding row_rules
+returns-in_err-rates_rule c = search (rules, goes_on, refuses)
+
+pub returns-in_err-last_age_rule : goal.returns-in_err-last_age_rule
+unfolding row_rules
+returns-in_err-last_age_rule c = search (rules, goes_on, refuses)

@@ -1,0 +1,52 @@
+-- The laws of refusals: each has a number, and a `?` hands on the first.
+use mathlib.Core.Path.{◌≡◌, refl, sym, ◌∙◌}
+use mathlib.Core.List.{List, [], ◌∷◌}
+use Prim.Native.Nat.{ℕ}
+use native.Mathlib.Omega.{arith}
+use Rattle.std.specs.declared.result.Result.{Result}
+use Rattle.std.specs.Result.{IsErrAnd}
+use Rattle.std.proofs.lemmas.Result.{err_from_is_err_and}
+use Rattle.rules.specs.declared.refusals.Refusal.{Refusal}
+use Rattle.rules.specs.declared.refusals.Refusal.TheVariants.{TooLarge, CutOff, BytesAfter, WrongCount, PlanForm, OutOfRange, WrongAverage, WrongLastDeath, WrongWeight, WrongAmendment, UnlistedRest, HighUnit, MemberForm, WrongId, WrongEntry, WrongAge, WrongSalary, HighBenefit, SurplusMember, WrongPerson, HighSum, NoRoom}
+use Rattle.rules.specs.Refusals.{number, verdict}
+use Rattle.rules.specs.Rules.{first_among}
+use Rattle.rules.proofs.RuleLaws.{first_refuses, first_passes, first_alone}
+
+-- no refusal has the number 0
+pub numbered : (r : Refusal) → number r ≡ 0 → ⊥
+numbered TooLarge e = omega arith
+numbered CutOff e = omega arith
+numbered BytesAfter e = omega arith
+numbered WrongCount e = omega arith
+numbered PlanForm e = omega arith
+numbered OutOfRange e = omega arith
+numbered WrongAverage e = omega arith
+numbered WrongLastDeath e = omega arith
+numbered WrongWeight e = omega arith
+numbered WrongAmendment e = omega arith
+numbered UnlistedRest e = omega arith
+numbered HighUnit e = omega arith
+numbered MemberForm e = omega arith
+numbered WrongId e = omega arith
+numbered WrongEntry e = omega arith
+numbered WrongAge e = omega arith
+numbered WrongSalary e = omega arith
+numbered HighBenefit e = omega arith
+numbered SurplusMember e = omega arith
+numbered WrongPerson e = omega arith
+numbered HighSum e = omega arith
+numbered NoRoom e = omega arith
+
+-- what a `?` returns
+pub handed_on : {A : Type 0} (e : Refusal) (r : Result A Refusal) → IsErrAnd r (λ d. d ≡ e) → verdict r ≡ number e
+handed_on e r h = let p = err_from_is_err_and r h in rw (p.1, p.2) refl
+
+-- ---- rules in order, each with a `?`: one that is kept is passed over, the first that is broken is handed on, and the last is the answer
+pub goes_on : {v a : ℕ} (later : List ℕ) → 0 ≡ a → v ≡ first_among later → v ≡ first_among (a ∷ later)
+goes_on later z e = e ∙ sym (first_passes _ later (sym z))
+
+pub refuses : {A : Type 0} (e : Refusal) (r : Result A Refusal) {a : ℕ} (later : List ℕ) → IsErrAnd r (λ d. d ≡ e) → number e ≡ a → verdict r ≡ first_among (a ∷ later)
+refuses e r {a} later h n = handed_on e r h ∙ n ∙ sym (first_refuses a later (λ z. numbered e (n ∙ z)))
+
+pub is_last : {v a : ℕ} → v ≡ a → v ≡ first_among (a ∷ [])
+is_last {a = a} e = e ∙ sym (first_alone a)

@@ -1,9 +1,0 @@
--- `rules::or_else` meets its contract.
-use borrow.Author.Tests.{eq-eqb, ne_eqb}
-use Rattle.rules.proofs.or_else.Goals as goal
-
-pub returns-then-a-eq0 : goal.returns-then-a-eq0
-returns-then-a-eq0 c = simp (eq-eqb c.args.a 0 c.if-a-eq0.true)
-
-pub returns-else-a-eq0 : goal.returns-else-a-eq0
-returns-else-a-eq0 c = simp (ne_eqb c.args.a 0 c.if-a-eq0.false)
