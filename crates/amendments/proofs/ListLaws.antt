@@ -119,12 +119,14 @@ module _ {L F : List (List ℕ)} {sum n j : ℕ} (s : Summed L F sum n j) (more 
         way = passed false out;
       }
 
-  pub summed_in : stands (before F n) a ≡ true → a.add ≤ 100000 → Summed L (set F n (fields_of a)) (sum + a.add) (n + 1) (j + 1)
+  pub summed_in : stands (before F n) a ≡ true → a.add ≤ 100000 → Summed L (set F n (get_or L j [])) (sum + a.add) (n + 1) (j + 1)
   summed_in on low =
+      let numbers = get_or L j [] in
       let place : n < length F = omega (arith, s.some, s.size) in
-      let held : before (set F n (fields_of a)) (n + 1) ≡ before F n ++ a ∷ [] = rw (add-one n) (ap amendments_from (take-suc-set F n (fields_of a) place) ∙ map-append amendment_from (take n F) (fields_of a ∷ [])) in
+      let held : before (set F n numbers) (n + 1) ≡ before F n ++ a ∷ [] =
+      rw (add-one n) (ap amendments_from (take-suc-set F n numbers place) ∙ map-append amendment_from (take n F) (numbers ∷ []) ∙ ap (λ (x : Amendment). before F n ++ x ∷ []) (sym is)) in
       record {
-        size = length-set F n (fields_of a) ∙ s.size;
+        size = length-set F n numbers ∙ s.size;
         some = omega (arith, s.some);
         within = omega arith;
         small = omega (arith, s.small, low);

@@ -2,7 +2,6 @@
 ghost use Rattle.std.specs.Prelude.{◌≡◌, [], length};
 ghost use Rattle.rules.specs.Refusals.{verdict};
 ghost use Rattle.rules.specs.Rules.{first_among};
-ghost use Rattle.plan.specs.Numbers.{terms_of, plan_from};
 ghost use Rattle.rules.specs.Heading.{pay_rule, unit_most, unit_rule, average_rule, term_rule, term_rules, ruled, head_rules};
 
 use crate::refusals::Refusal;
@@ -65,8 +64,7 @@ fn average_rule(formula: u64, average: u64) -> Result<(), Refusal>
 pub fn head_refusal(p: Plan) -> Result<(), Refusal>
     ensures { verdict result ≡ first_among (head_rules p) }
 {
-    let terms = terms_of(p);
-    terms_refusal(&terms)
+    terms_refusal(&Terms::from(p))
 }
 
 // The first refusal of the terms.
@@ -78,30 +76,4 @@ fn terms_refusal(terms: &Terms) -> Result<(), Refusal>
         term_rule(k, terms, terms[k])?;
     }
     Ok(())
-}
-
-// The terms of a plan.
-fn terms_of(p: Plan) -> Terms
-    ensures { result ≡ terms_of p }
-{
-    [
-        p.interest, p.retire, p.pay, p.formula, p.unit, p.average, p.method, p.assets, p.years,
-    ]
-}
-
-// The plan that has these terms.
-pub fn plan_from(terms: &Terms) -> Plan
-    ensures { result ≡ plan_from terms.now }
-{
-    Plan {
-        interest: terms[0],
-        retire: terms[1],
-        pay: terms[2],
-        formula: terms[3],
-        unit: terms[4],
-        average: terms[5],
-        method: terms[6],
-        assets: terms[7],
-        years: terms[8],
-    }
 }

@@ -1,9 +1,17 @@
 -- `amending::amendment_rule` meets its contract.
-use Rattle.rules.proofs.RuleLaws.{in_order, last_in_order}
+use Rattle.std.proofs.Common.{rules}
+use Rattle.rules.proofs.RefusalLaws.{goes_on, refuses, is_last}
 use Rattle.amendments.specs.Judging.{amendment_rules}
 use Rattle.amending.proofs.amendment_rule.Goals as goal
 
+pub returns-in_err-fields_rule : goal.returns-in_err-fields_rule
+unfolding amendment_rules
+returns-in_err-fields_rule c = search (rules, refuses)
+
+pub returns-in_err-order_rule : goal.returns-in_err-order_rule
+unfolding amendment_rules
+returns-in_err-order_rule c = search (rules, goes_on, refuses)
+
 pub returns : goal.returns
 unfolding amendment_rules
-returns c = in_order c.or_else.ensures c.fields_rule.ensures
-    (last_in_order c.or_else-order.ensures c.order_rule.ensures c.rest_rule-rest.ensures)
+returns c = search (rules, goes_on, is_last)

@@ -9,8 +9,8 @@ use Rattle.amending.proofs.as_valued.Goals as goal
 pub additions-requires : goal.additions-requires
 additions-requires c = (list_kept c.args.p (amendments_from c.args.list.now) c.requires).0
 
-pub overflow_add-unit : goal.overflow_add-unit
-overflow_add-unit c = ⊎_elim (λ h. omega (arith, h, c.additions.ensures)) (λ h. omega (arith, h, c.additions.ensures, c.struct_known-1.given))
+pub overflow_add-result : goal.overflow_add-result
+overflow_add-result c = ⊎_elim (λ h. omega (arith, h, c.additions.ensures)) (λ h. omega (arith, h, c.additions.ensures))
     (valued_small c.args.p (amendments_from c.args.list.now) c.requires)
 
 pub returns : goal.returns

@@ -1,35 +1,23 @@
 -- `amending::each_refusal` meets its contract.
-use mathlib.Core.Path.{◌≡◌, refl, sym, ap, ◌∙◌}
-use Prim.Native.Nat.{◌-◌}
+use mathlib.Core.Path.{refl, sym, ap, ◌∙◌}
 use native.Mathlib.Omega.{arith}
-use lib.ListN.{length-take}
+use Rattle.rules.proofs.RefusalLaws.{numbered, handed_on}
 use Rattle.amendments.specs.Judging.{amendment_refusal}
-use Rattle.amendments.proofs.ListLaws.{at, before, each_refused, each_passed, each_done}
+use Rattle.amendments.proofs.ListLaws.{before, each_refused, each_passed, each_done}
 use Rattle.amending.proofs.each_refusal.Goals as goal
-use Rattle.amending.proofs.each_refusal.Goals.{After-amendment_rule-refusal}
 
--- the amendment at place j is judged after those before it
-judged : (c : After-amendment_rule-refusal) → let L = c.args.list.now in let j = c.loop-j.j in c.amendment_rule-refusal.result ≡ amendment_refusal (before L j) (at L j)
-judged c =
-    let L = c.args.list.now in
+pub returns-in_err-amendment_rule : goal.returns-in_err-amendment_rule
+returns-in_err-amendment_rule c = let L = c.args.list.now in
     let j = c.loop-j.j in
-    c.amendment_rule-refusal.ensures ∙ ap (amendment_refusal (before L j)) c.amendment_at.ensures
-
-pub loop-j-init : goal.loop-j-init
-loop-j-init c = (omega arith, refl)
-
-pub slice_bounds-amendment_rule-end : goal.slice_bounds-amendment_rule-end
-slice_bounds-amendment_rule-end c = simp length-take (omega arith)
-
-pub returns-then-refusal-ne0 : goal.returns-then-refusal-ne0
-returns-then-refusal-ne0 c = let l = c.loop-j in
-    each_refused c.args.list.now l.j c.loop-j-test.true (judged c.before) c.if-refusal-ne0.true ∙ sym l.invariant.1
+    let refusal = c.in_err-amendment_rule.field-0.0 in
+    let judged = c.in_err-amendment_rule.ensures ∙ ap (amendment_refusal (before L j)) c.from.ensures in
+    handed_on refusal c.from_residual.result c.from_residual.ensures.1 ∙ each_refused L j c.loop-j-test.true judged (numbered refusal) ∙ sym c.loop-j.invariant
 
 pub loop-j-preserved : goal.loop-j-preserved
-loop-j-preserved c = let l = c.loop-j in
-    let test = c.loop-j-test.true in
-    (omega arith, l.invariant.1 ∙ each_passed c.args.list.now l.j test (judged c.before) c.if-refusal-ne0.false)
+loop-j-preserved c = let L = c.args.list.now in
+    let j = c.loop-j.j in
+    let judged = c.in_ok-amendment_rule.ensures ∙ ap (amendment_refusal (before L j)) c.from.ensures in
+    c.loop-j.invariant ∙ each_passed L j c.loop-j-test.true judged refl
 
 pub returns : goal.returns
-returns c = let l = c.loop-j in
-    each_done c.args.list.now l.j (omega (arith, c.loop-j-test.false)) ∙ sym l.invariant.1
+returns c = each_done c.args.list.now c.loop-j.j (omega (arith, c.loop-j-test.false)) ∙ sym c.loop-j.invariant

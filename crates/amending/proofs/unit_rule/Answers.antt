@@ -1,18 +1,21 @@
 -- `amending::unit_rule` meets its contract.
+use mathlib.Core.Path.{◌≡◌}
 use native.Mathlib.Omega.{arith}
+use lib.ListN.{length}
 use Rattle.amendments.proofs.Keeping.{unit_none, unit_over, unit_judged}
 use Rattle.amending.proofs.unit_rule.Goals as goal
 
-pub returns-then-list-eq0 : goal.returns-then-list-eq0
-returns-then-list-eq0 c = unit_none c.args.p c.args.list.now c.if-list-eq0.true
+pub returns-then-is_empty : goal.returns-then-is_empty
+returns-then-is_empty c =
+    let none : length c.args.list.now ≡ 0 = grind arith in
+    unit_none c.args.p c.args.list.now none
 
 pub returns-then-most-p : goal.returns-then-most-p
-returns-then-most-p c = let a = c.args in
-    unit_over a.p a.list.now c.if-list-eq0.false (omega (arith, c.if-most-p.true, c.unit_most-most.ensures))
-
-pub additions-requires : goal.additions-requires
-additions-requires c = c.requires
+returns-then-most-p c =
+    let some : length c.args.list.now ≡ 0 → ⊥ = grind arith in
+    unit_over c.args.p c.args.list.now some (omega (arith, c.if-most-p.true, c.unit_most-most.ensures))
 
 pub returns : goal.returns
-returns c = let a = c.args in
-    unit_judged a.p a.list.now c.if-list-eq0.false _ _ _ c.unit_most-most.ensures (omega (arith, c.if-most-p.false)) c.additions.ensures c.unless.ensures
+returns c =
+    let some : length c.args.list.now ≡ 0 → ⊥ = grind arith in
+    unit_judged c.args.p c.args.list.now some _ _ _ c.unit_most-most.ensures c.if-most-p.false c.additions.ensures c.unless.ensures

@@ -9,4 +9,4 @@ use Rattle.rules.proofs.terms.head_refusal.Goals as goal
 pub returns : goal.returns
 unfolding head_rules
 returns c = c.terms_refusal.ensures
-    ∙ ap (λ (t : List ℕ). first_among (ruled term_rules [] t)) c.terms_of-terms.ensures
+    ∙ ap (λ (t : List ℕ). first_among (ruled term_rules [] t)) c.from.ensures
