@@ -60,10 +60,7 @@ fn fields_refusal(p: Plan, before: u64, m: Member) -> Result<(), Refusal>
 fn id_rule(before: u64, id: u64) -> Result<(), Refusal>
     ensures { verdict result ≡ Rules·unless (Rules·between 1 999999999 id && ltb before id) wrong_id }
 {
-    unless(
-        between(1, 999_999_999, id) && before < id,
-        Refusal::WrongId,
-    )
+    unless(between(1, 999_999_999, id) && before < id, Refusal::WrongId)
 }
 
 fn person_rule(person: u64) -> Result<(), Refusal>

@@ -2,12 +2,15 @@
 use mathlib.Core.Path.{◌≡◌, refl, sym, ◌∙◌}
 use mathlib.Core.List.{List, [], ◌∷◌}
 use Prim.Native.Nat.{ℕ}
+use borrow.Author.Tests.{ne_eqb}
 use native.Mathlib.Omega.{arith}
 use Rattle.std.specs.declared.result.Result.{Result}
 use Rattle.std.specs.Result.{IsErrAnd}
 use Rattle.std.proofs.lemmas.Result.{err_from_is_err_and}
 use Rattle.rules.specs.declared.refusals.Refusal.{Refusal}
 use Rattle.rules.specs.declared.refusals.Refusal.TheVariants.{TooLarge, CutOff, BytesAfter, WrongCount, PlanForm, OutOfRange, WrongAverage, WrongLastDeath, WrongWeight, WrongAmendment, UnlistedRest, HighUnit, MemberForm, WrongId, WrongEntry, WrongAge, WrongSalary, HighBenefit, SurplusMember, WrongPerson, HighSum, NoRoom}
+use Rattle.rules.specs.declared.refusals.Refused.{Refused}
+use Rattle.rules.specs.Outcome.{Outcome, refusal, passing, outcome}
 use Rattle.rules.specs.Refusals.{number, verdict}
 use Rattle.rules.specs.Rules.{first_among}
 use Rattle.rules.proofs.RuleLaws.{first_refuses, first_passes, first_alone}
@@ -50,3 +53,17 @@ refuses e r {a} later h n = handed_on e r h ∙ n ∙ sym (first_refuses a later
 
 pub is_last : {v a : ℕ} → v ≡ a → v ≡ first_among (a ∷ [])
 is_last {a = a} e = e ∙ sym (first_alone a)
+
+-- ---- the same of answers with a line
+pub told_at_line : {A : Type 0} (e : Refused) (r : Result A Refused) → IsErrAnd r (λ d. d ≡ e) → outcome r ≡ refusal (number e.refusal) e.line
+told_at_line e r h = let p = err_from_is_err_and r h in rw (p.1, p.2) refl
+
+-- the line of plain values is 0
+pub told_plain : {A : Type 0} (e : Refusal) (r : Result A Refused) → IsErrAnd r (λ d. (d.refusal ≡ e) × (d.line ≡ 0)) → outcome r ≡ refusal (number e) 0
+told_plain e r h = let p = err_from_is_err_and r h in rw (p.1, p.2.0, p.2.1) refl
+
+pub passes_on : {A : Type 0} {n : ℕ} (line : ℕ) (more : Outcome A) → 0 ≡ n → more ≡ passing n line more
+passes_on line more z = rw (sym z) refl
+
+pub passes_none : {A : Type 0} (e : Refusal) {n : ℕ} (line : ℕ) (more : Outcome A) → number e ≡ n → refusal (number e) line ≡ passing n line more
+passes_none e {n} line more is = rw is (sym (simp (ne_eqb n 0 (λ z. numbered e (is ∙ z)))))

@@ -1,11 +1,25 @@
 -- `acceptance::fields_refusal` meets its contract.
+use Rattle.std.proofs.Common.{rules}
 use Rattle.rule_order.specs.Acceptance.{field_rules}
-use Rattle.rules.proofs.RuleLaws.{in_order, last_in_order}
+use Rattle.rules.proofs.RefusalLaws.{goes_on, refuses, is_last}
 use Rattle.acceptance.proofs.fields_refusal.Goals as goal
+
+pub returns-in_err-id_rule : goal.returns-in_err-id_rule
+unfolding field_rules
+returns-in_err-id_rule c = search (rules, goes_on, refuses)
+
+pub returns-in_err-person_rule : goal.returns-in_err-person_rule
+unfolding field_rules
+returns-in_err-person_rule c = search (rules, goes_on, refuses)
+
+pub returns-in_err-entry_rule : goal.returns-in_err-entry_rule
+unfolding field_rules
+returns-in_err-entry_rule c = search (rules, goes_on, refuses)
+
+pub returns-in_err-age_rule : goal.returns-in_err-age_rule
+unfolding field_rules
+returns-in_err-age_rule c = search (rules, goes_on, refuses)
 
 pub returns : goal.returns
 unfolding field_rules
-returns c = in_order c.or_else.ensures c.id_rule.ensures
-    (in_order c.or_else-person.ensures c.unless_between-numbered.ensures
-    (in_order c.or_else-entry.ensures c.entry_rule.ensures
-    (last_in_order c.or_else-age.ensures c.unless_between.ensures c.unless-salary.ensures)))
+returns c = search (rules, goes_on, is_last)
