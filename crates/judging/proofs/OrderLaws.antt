@@ -33,6 +33,12 @@ module _ (c : Case) where
   unfolding case_refusal
   count_refused plan many = simp (eq-eqb plan_of 0 plan, lt-leb (length c.members) most_members many)
 
+  pub count_refuses : {n : ℕ} → plan_of ≡ 0 → n ≡ unless (leb (length c.members) most_members) surplus_member → (n ≡ 0 → ⊥) → n ≡ case_refusal c
+  unfolding case_refusal
+  count_refuses plan e some =
+      let count = unless (leb (length c.members) most_members) surplus_member in
+      e ∙ sym (first_passes plan_of (count ∷ members_of ∷ []) plan ∙ first_refuses count (members_of ∷ []) (λ z. some (e ∙ z)))
+
   pub members_judged : plan_of ≡ 0 → length c.members ≤ most_members → members_of ≡ case_refusal c
   unfolding case_refusal
   members_judged plan few =

@@ -3,7 +3,7 @@ use Prim.Native.Nat.{ℕ, ◌+◌, ◌≤◌, ◌<◌}
 use mathlib.Core.Path.{◌≡◌, refl, sym, ap, ◌∙◌}
 use mathlib.Core.List.{List, [], ◌∷◌, ◌++◌, map}
 use mathlib.Core.Bool.{cond}
-use lib.ListN.{length, get_or, take, drop, replicate, length-map, drop_of_length-le, get_or-map}
+use lib.ListN.{length, get_or, take, drop, length-map, drop_of_length-le, get_or-map}
 use lib.Dec.{eqb}
 use lib.Seq.{drop-cons, take-suc}
 use native.Mathlib.Numerals.{add-one}
@@ -16,8 +16,6 @@ use Rattle.rule_order.specs.Acceptance.{person_sum, line_refusal}
 use Rattle.rule_order.proofs.SumLaws.{sum_next}
 use Rattle.persons.specs.Held.{held}
 use Rattle.persons.specs.Search.{Rooted}
-use Rattle.persons.proofs.HeldLaws.{held_zeros}
-use Rattle.persons.proofs.LineLaws.{rooted_none}
 use Rattle.plan.specs.Numbers.{member_from}
 use Rattle.walk.specs.Step.{last_id}
 use Rattle.walk.specs.Kept.{nobody}
@@ -48,9 +46,9 @@ pub record Passed (p : Plan) (rows list : List (List ℕ)) (cells : List ℕ) (s
   pub summed : (person : ℕ) → held sums person ≡ person_sum p rows person (take j (members_in list))
   pub way : members_refusal p rows [] (members_in list) ≡ members_refusal p rows (take j (members_in list)) (drop j (members_in list))
 
-pub passed_none : (p : Plan) (rows list : List (List ℕ)) → Passed p rows list (replicate 6098 0) (replicate 1000 (replicate 2 0)) 0 0
+pub passed_none : (p : Plan) (rows list : List (List ℕ)) {cells : List ℕ} {sums : List (List ℕ)} → Rooted cells sums 0 → ((person : ℕ) → held sums person ≡ 0) → Passed p rows list cells sums 0 0
 unfolding person_sum
-passed_none p rows list = record { id = refl; rooted = rooted_none; summed = held_zeros 1000; way = refl }
+passed_none p rows list rooted nothing = record { id = refl; rooted = rooted; summed = nothing; way = refl }
 
 module _ {p : Plan} {rows list : List (List ℕ)} {cells : List ℕ} {sums : List (List ℕ)} {before j : ℕ} (i : Passed p rows list cells sums before j) where
   pub passed_all : length list ≤ j → 0 ≡ members_refusal p rows [] (members_in list)

@@ -32,7 +32,8 @@ pub struct Persons {
 impl Persons {
     // No line yet.
     pub fn none() -> Persons
-        ensures { Rooted result.cells result.sums 0 }
+        ensures rooted { Rooted result.cells result.sums 0 }
+        ensures nothing { (person : ℕ) → held result.sums person ≡ 0 }
     {
         Persons {
             cells: [0; CELLS],
