@@ -12,7 +12,7 @@ use Rattle.plan.specs.Ranges.{MemberRanges}
 use Rattle.rule_order.proofs.Facts.{member_facts}
 use Rattle.rule_order.proofs.ValuedLaws.{valued_is_accepted}
 use Rattle.costs.specs.declared.Figures.{Figures}
-use Rattle.rules.specs.Outcome.{values, refusal}
+use Rattle.rules.specs.Outcome.{Outcome, values, refusal}
 use Rattle.costs.specs.Valuation.{method_of, setting_of, figures_at, figures, Limited, valuation, Accepted, Demand3Forms, Demand3Limits, Demand3SharpLimits}
 use Rattle.costs.proofs.EqualForms.{equal_forms}
 use Rattle.costs.proofs.Limits.{limits, sharp_limits}
@@ -35,6 +35,9 @@ module _ (p : Plan) (rows : List (List ℕ)) (m : Member) where
 
   pub limited : {f : Figures} → MemberRanges p rows m → f ≡ figures p rows m → Limited p rows m (values f)
   limited accepted e = subst (λ (f : Figures). Limited p rows m (values f)) (sym e) (own_figures accepted)
+
+  pub limited_none : {o : Outcome Figures} {number line : ℕ} → o ≡ refusal number line → Limited p rows m o
+  limited_none e = rw e tt
 
 -- ---- demand 3, of every accepted member
 in_ranges : (p : Plan) (l : List Amendment) (rows : List (List ℕ)) (before : ℕ) (m : Member) → Accepted p l rows before m → MemberRanges (as_valued p l) rows m

@@ -20,7 +20,12 @@ use rates::Rows;
 use rules::refusals::Refused;
 
 // Rules 5.5, 5.6 and 9.11: values a lone member of a plan with its amendments.
-pub fn value_member(p: Plan, amendments: &[[u64; 4]], rows: Rows, m: Member) -> Result<Figures, Refused>
+pub fn value_member(
+    p: Plan,
+    amendments: &[[u64; 4]],
+    rows: Rows,
+    m: Member,
+) -> Result<Figures, Refused>
     ensures figures { outcome result ≡ valuation p (amendments_from amendments.now) rows m }
     ensures limits { Limited (as_valued p (amendments_from amendments.now)) rows m (outcome result) }
 {
