@@ -75,10 +75,8 @@ pub fn certain_annuity(i: u64, m: u64) -> u64
     ensures { result ≡ C i m }
 {
     let mut c = 0;
-    let mut paid = 0;
-    while paid < m {
+    for _ in 0..m {
         c = S + rounding::mul_div_nearest(c, 1_000_000, 100 * (10_000 + i));
-        paid += 1;
     }
     c
 }

@@ -14,7 +14,7 @@ use judging::member_at;
 use plan::{Amendment, Member};
 use printed_lines::{write_field, write_start};
 use printing::{put, write_whole};
-use rates::{AGES, FIRST_AGE, Rows, word};
+use rates::{AGES, FIRST_AGE, Rows};
 
 // Writes a comma and a whole number.
 fn write_next(out: &mut [u8], at: usize, n: u64) -> usize
@@ -59,11 +59,11 @@ fn write_row(out: &mut [u8], at: usize, age: u64, row: [u32; 4]) -> usize
         at,
         b"row=",
         age,
-        word(row[0]),
-        word(row[1]),
-        word(row[2]),
+        u64::from(row[0]),
+        u64::from(row[1]),
+        u64::from(row[2]),
     );
-    let b = write_next(out, a, word(row[3]));
+    let b = write_next(out, a, u64::from(row[3]));
     put(out, b, 10)
 }
 

@@ -1,7 +1,8 @@
 -- The laws of summed weights.
-use mathlib.Core.Path.{◌≡◌}
-use Prim.Native.Nat.{ℕ, zero, suc, ◌+◌, ◌*◌, ◌≤◌, ◌<◌}
-use native.Mathlib.Omega.{arith}
+use Rattle.std.proofs.Common.{◌≡◌, refl, ap, ℕ, zero, suc, ◌+◌, ◌-◌, ◌*◌, ◌≤◌, ◌<◌, arith, List, [], length, get_or, take, drop, drop-cons, sum_by}
+use Rattle.std.proofs.lemmas.List.Sums.{sum_by-cons}
+use borrow.Rule.Slice.PartMut.{mid_of}
+use Rattle.rates.specs.Table.{weight}
 use Rattle.plan.specs.Weights.{summed}
 
 module _ (W : ℕ → ℕ) where
@@ -37,3 +38,21 @@ module _ (W : ℕ → ℕ) where
       let after : suc k + 1 ≡ suc (suc k) = omega arith in
       let first : W k ≤ W (suc k) = rw next at (climbs k (omega arith) (omega arith)) in
       rw next (omega (arith, first, rw after at (summed_climbs (suc k) n (λ j from to. climbs j (omega arith) (omega arith)))))
+
+-- the weights of n rows from place i on are those of the ages from 15 years later on
+summed_rows : (rows : List (List ℕ)) (i n : ℕ) → i + n ≤ length rows
+    → sum_by (λ row. get_or row 3 0) (take n (drop i rows)) ≡ summed (weight rows) (i + 15) n
+unfolding summed
+summed_rows rows i zero fits = refl
+summed_rows rows i (suc n) fits =
+    let here : i + 15 - 15 ≡ i = omega arith in
+    let next : suc i + 15 ≡ suc (i + 15) = omega arith in
+    rw (drop-cons rows i [] (omega arith), here, sum_by-cons (λ row. get_or row 3 0)) (ap (λ (s : ℕ). get_or (get_or rows i []) 3 0 + s) (rw next at (summed_rows rows (suc i) n (omega arith))))
+
+-- and so those of the rows of the ages from a to b - 1
+pub summed_part : (rows : List (List ℕ)) (a b : ℕ) → 15 ≤ a → a ≤ b → b ≤ 15 + length rows
+    → sum_by (λ row. get_or row 3 0) (mid_of (a - 15) (b - 15 - (a - 15)) rows) ≡ summed (weight rows) a (b - a)
+summed_part rows a b low le fits =
+    let years : b - 15 - (a - 15) ≡ b - a = omega arith in
+    let from : a - 15 + 15 ≡ a = omega arith in
+    rw years (rw from at (summed_rows rows (a - 15) (b - a) (omega arith)))

@@ -1,30 +1,23 @@
 // Pay and benefit, RULES section 7: B(k) at an age of a member, from exact pay, rounded once to the cent.
-ghost use Rattle.std.specs.Prelude.{◌≡◌, ◌-◌, ◌*◌, ◌≤◌, ◌<◌, min};
+ghost use Rattle.std.specs.Prelude.{◌≡◌, ◌-◌, ◌*◌, ◌^◌, ◌≤◌, ◌<◌, sum_by, get_or};
 ghost use Rattle.rounding.specs.Nearest.{nearest};
-ghost use Rattle.rates.specs.Table.{Table, weight};
+ghost use Rattle.rates.specs.Table.{Table, weight as Table·weight};
 ghost use Rattle.plan.specs.Weights.{summed, first_paid};
 ghost use Rattle.plan.specs.Benefit.{formula_of, B};
 ghost use Rattle.plan.specs.Ranges.{PlanRanges, InRange};
 
 use crate::{Formula, Member, Plan};
-use rates::{FIRST_AGE, Rows, word};
+use rates::{FIRST_AGE, Rows, weight};
 
+#[tactic(auto, unfolding(crate::specs::Benefit::formula_of))]
 fn formula_of(code: u64) -> Formula
     ensures { result ≡ formula_of code }
 {
-    if code == 1 {
-        return Formula::Flat;
+    match code {
+        1 => Formula::Flat,
+        2 => Formula::Career,
+        _ => Formula::Final,
     }
-    if code == 2 {
-        return Formula::Career;
-    }
-    Formula::Final
-}
-
-fn least(a: u64, b: u64) -> u64
-    ensures { result ≡ min a b }
-{
-    if a <= b { a } else { b }
 }
 
 // u / 10000 of the pay of ages whose weights sum to `weights`; pay is in proportion to the weight, and `now` is that of
@@ -44,19 +37,22 @@ fn final_average(unit: u64, years: u64, salary: u64, weights: u64, n: u64, now: 
     rounding::div_nearest(unit * years * (salary * weights), 10_000 * (n * now))
 }
 
-// The weights of the ages from a to b - 1, added up where they stand.
+// The weights of some rows, added up where they stand.
+fn weights_in(rows: &[[u32; 4]]) -> u64
+    requires { sum_by (λ row. get_or row 3 0) rows.now < 2 ^ 64 }
+    ensures { result ≡ sum_by (λ row. get_or row 3 0) rows.now }
+{
+    rows.iter()
+        .map(|[_, _, _, weight]| u64::from(*weight))
+        .sum()
+}
+
+// The weights of the ages from a to b - 1.
 pub fn weights_between(rows: &Rows, a: u64, b: u64) -> u64
     requires { Table rows.now × (15 ≤ a) × (a ≤ b) × (b ≤ 120) }
-    ensures { result ≡ summed (weight rows.now) a (b - a) }
+    ensures { result ≡ summed (Table·weight rows.now) a (b - a) }
 {
-    let mut sum: u64 = 0;
-    let mut k = a;
-    while k < b {
-        let row = rows[k as usize - FIRST_AGE];
-        sum += word(row[3]);
-        k += 1;
-    }
-    sum
+    weights_in(&rows[a as usize - FIRST_AGE..b as usize - FIRST_AGE])
 }
 
 // The first of the ages whose pay B(k) rests on: by flat k itself, since it rests on none.
@@ -67,14 +63,14 @@ fn first_paid(formula: Formula, average: u64, entry: u64, k: u64) -> u64
     match formula {
         Formula::Flat => k,
         Formula::Career => entry,
-        Formula::Final => k - least(average, k - entry),
+        Formula::Final => k - average.min(k - entry),
     }
 }
 
 // Rules 7.3 to 7.7, B(k): what has accrued by age k. The ages whose pay it rests on go from `first` to k - 1, and `weights`
 // is the sum of theirs.
 fn benefit(p: Plan, rows: &Rows, m: Member, k: u64, first: u64, weights: u64) -> u64
-    requires { PlanRanges p rows.now × InRange p m × (m.entry ≤ k) × (k ≤ p.retire) × (first ≡ first_paid (formula_of p.formula) p.average m.entry k) × (weights ≡ summed (weight rows.now) first (k - first)) }
+    requires { PlanRanges p rows.now × InRange p m × (m.entry ≤ k) × (k ≤ p.retire) × (first ≡ first_paid (formula_of p.formula) p.average m.entry k) × (weights ≡ summed (Table·weight rows.now) first (k - first)) }
     ensures { result ≡ B p rows.now m k }
 {
     let entry = m.entry;
@@ -82,10 +78,8 @@ fn benefit(p: Plan, rows: &Rows, m: Member, k: u64, first: u64, weights: u64) ->
         return 0;
     }
     let years = k - entry;
-    let row = rows[m.age as usize - FIRST_AGE];
-    let now = word(row[3]);
-    let formula = formula_of(p.formula);
-    match formula {
+    let now = weight(rows, m.age as usize);
+    match formula_of(p.formula) {
         Formula::Flat => p.unit * years,
         Formula::Career => career(p.unit, m.salary, weights, now),
         Formula::Final => final_average(p.unit, years, m.salary, weights, k - first, now),

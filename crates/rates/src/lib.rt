@@ -24,7 +24,7 @@ fn left_by(rate: u32) -> u64
     requires { rate ≤ 1000000 }
     ensures { result ≡ 1000000 - rate }
 {
-    1_000_000 - word(rate)
+    1_000_000 - u64::from(rate)
 }
 
 // Of a million, how many are left by two causes: by the one alone a, and by the other alone b.
@@ -40,7 +40,8 @@ fn able(row: [u32; 4]) -> u64
     requires { Sound row }
     ensures { result ≡ Rates·able row }
 {
-    left_by_both(left_by(row[0]), left_by(row[2]))
+    let [death, _, disability, _] = row;
+    left_by_both(left_by(death), left_by(disability))
 }
 
 // Rule 8.2, P(k), by the row of age k: of a million, how many stay the year.
@@ -48,10 +49,11 @@ pub fn staying(row: [u32; 4], r: usize, k: usize) -> u64
     requires { Sound row }
     ensures { result ≡ stays row r k }
 {
+    let [death, withdrawal, _, _] = row;
     if k < r {
-        left_by_both(able(row), left_by(row[1]))
+        left_by_both(able(row), left_by(withdrawal))
     } else {
-        left_by(row[0])
+        left_by(death)
     }
 }
 
@@ -60,12 +62,5 @@ pub fn weight(rows: &Rows, k: usize) -> u64
     requires { (15 ≤ k) × (k ≤ 120) }
     ensures { result ≡ Table·weight rows.now k }
 {
-    word(rows[k - FIRST_AGE][3])
-}
-
-// A number of a row, as wide as what is worked with it.
-pub fn word(x: u32) -> u64
-    ensures { result ≡ x }
-{
-    x as u64
+    u64::from(rows[k - FIRST_AGE][3])
 }

@@ -51,7 +51,7 @@ fn amount_of(row: [u32; 4], amount: Amount) -> u64
     match amount {
         Amount::Nothing => 0,
         Amount::One => S,
-        Amount::Weight => rates::word(row[3]) * S,
+        Amount::Weight => u64::from(row[3]) * S,
     }
 }
 
@@ -61,13 +61,12 @@ pub fn fill(rows: &Rows, r: usize, i: u64, amount: Amount, top: usize, start: u6
     ensures { Filled (factor (basis rows.now r i) amount top start) top 15 result }
 {
     let mut a = [0u64; AGES];
-    let mut j: usize = top - FIRST_AGE;
-    a[j] = start;
-    while 0 < j {
-        let f = a[j];
-        j -= 1;
-        let row = rows[j];
-        a[j] = amount_of(row, amount) + step(row, r, i, j + FIRST_AGE, f);
+    a[top - FIRST_AGE] = start;
+    let mut f = start;
+    for k in (FIRST_AGE..top).rev() {
+        let row = rows[k - FIRST_AGE];
+        f = amount_of(row, amount) + step(row, r, i, k, f);
+        a[k - FIRST_AGE] = f;
     }
     a
 }

@@ -13,4 +13,4 @@ returns-in-One c = search rules
 
 pub returns-in-Weight : goal.returns-in-Weight
 unfolding paid_of
-returns-in-Weight c = rw (c.in-Weight.is, c.word.ensures)
+returns-in-Weight c = rw (c.in-Weight.is, c.from.ensures)

@@ -7,6 +7,6 @@ use Rattle.case_lines.proofs.lists.write_row.Goals as goal
 
 pub returns : goal.returns
 unfolding row_line
-returns c = let four = rw (c.word.ensures, c.word-2.ensures, c.word-3.ensures) at c.write_four-a.ensures.puts in
-    let weight = rw c.word-4.ensures at c.write_next-b.ensures.puts in
+returns c = let four = rw (c.from.ensures, c.from-2.ensures, c.from-3.ensures) at c.write_four-a.ensures.puts in
+    let weight = rw c.from-4.ensures at c.write_next-b.ensures.puts in
     record { puts = five_values (bytes "row=") _ _ _ _ _ four weight c.put.ensures; upper_bound = search rules }
