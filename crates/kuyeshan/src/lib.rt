@@ -15,19 +15,17 @@ ghost use Rattle.report.specs.Lines.{refusal_line};
 ghost use Rattle.fitting.specs.Fitting.{fitting, buffer};
 ghost use Rattle.valuation.specs.Answers.{valued_of};
 ghost use Rattle.writer.specs.Files.{file_of};
-ghost use Rattle.answer_numbers.specs.Answers.{number_of as Answers·number_of, line_number_of, written_of as Answers·written_of};
+ghost use Rattle.answer_numbers.specs.Answers.{number_of, line_number_of, written_of};
 ghost use Rattle.answer_numbers.specs.Values.{refused_by, figures_after};
 
-use plan::{MOST_AMENDMENTS, MOST_MEMBERS, Terms};
+use plan::{MOST_AMENDMENTS, MOST_MEMBERS, Member, Plan, Terms};
 use rates::{AGES, Rows};
 use rules::refusals::Refused;
-use rules::terms::plan_from;
-use tails::member_from;
 use totals::EngineChoice;
 
 // The refusal's number, 0 for none.
-fn number_of<T>(answer: &Result<T, Refused>) -> u64
-    ensures { result ≡ Answers·number_of (outcome answer.now) }
+fn number_told<T>(answer: &Result<T, Refused>) -> u64
+    ensures { result ≡ number_of (outcome answer.now) }
 {
     match answer {
         Ok(_) => 0,
@@ -36,7 +34,7 @@ fn number_of<T>(answer: &Result<T, Refused>) -> u64
 }
 
 // The refusal's line, 0 for none.
-fn line_of<T>(answer: &Result<T, Refused>) -> u64
+fn line_told<T>(answer: &Result<T, Refused>) -> u64
     ensures { result ≡ line_number_of (outcome answer.now) }
 {
     match answer {
@@ -46,7 +44,7 @@ fn line_of<T>(answer: &Result<T, Refused>) -> u64
 }
 
 // How many bytes were written.
-fn written_of(answer: &Result<usize, Refused>) -> u64
+fn written_told(answer: &Result<usize, Refused>) -> u64
     ensures { MatchResult answer.now (λ n. result ≡ n) (λ _. result ≡ 0) }
 {
     match answer {
@@ -58,26 +56,26 @@ fn written_of(answer: &Result<usize, Refused>) -> u64
 // Rule 5.1: reads a case file for its form.
 #[unsafe(no_mangle)]
 pub extern "C" fn kuyeshan_read(case: &[u8], line: &mut u64) -> u64
-    ensures value { result ≡ Answers·number_of (walk_of false case.now) }
+    ensures value { result ≡ number_of (walk_of false case.now) }
     ensures line_after { line.new ≡ line_number_of (walk_of false case.now) }
 {
     let read = casefile::read_case(case);
-    *line = line_of(&read);
-    number_of(&read)
+    *line = line_told(&read);
+    number_told(&read)
 }
 
 // Rule 5.2: accepts a case file, its form and its ranges. What accepting hands on stays here.
 #[unsafe(no_mangle)]
 pub extern "C" fn kuyeshan_accept(case: &[u8], line: &mut u64) -> u64
-    ensures value { result ≡ Answers·number_of (accepting_of case.now) }
+    ensures value { result ≡ number_of (accepting_of case.now) }
     ensures line_after { line.new ≡ line_number_of (accepting_of case.now) }
 {
     let mut amendments = [[0; 4]; MOST_AMENDMENTS];
     let mut rows = [[0; 4]; AGES];
     let mut members = [[0; 5]; MOST_MEMBERS];
     let accepted = casefile::accept_case(case, &mut amendments, &mut rows, &mut members);
-    *line = line_of(&accepted);
-    number_of(&accepted)
+    *line = line_told(&accepted);
+    number_told(&accepted)
 }
 
 // Values a case file: the lines of its members and of the plan, at the start of `out`, or a refusal. The engine is chosen by
@@ -89,10 +87,10 @@ pub extern "C" fn kuyeshan_value(
     line: &mut u64,
     written: &mut u64,
 ) -> u64
-    ensures value { result ≡ Answers·number_of (valued_of (length out.old) case.now) }
+    ensures value { result ≡ number_of (valued_of (length out.old) case.now) }
     ensures out_after { out.new ≡ buffer (valued_of (length out.old) case.now) out.old }
     ensures line_after { line.new ≡ line_number_of (valued_of (length out.old) case.now) }
-    ensures written_after { written.new ≡ Answers·written_of (valued_of (length out.old) case.now) }
+    ensures written_after { written.new ≡ written_of (valued_of (length out.old) case.now) }
 {
     value_by(EngineChoice::ByCount, case, out, line, written)
 }
@@ -105,10 +103,10 @@ pub extern "C" fn kuyeshan_value_plain(
     line: &mut u64,
     written: &mut u64,
 ) -> u64
-    ensures value { result ≡ Answers·number_of (valued_of (length out.old) case.now) }
+    ensures value { result ≡ number_of (valued_of (length out.old) case.now) }
     ensures out_after { out.new ≡ buffer (valued_of (length out.old) case.now) out.old }
     ensures line_after { line.new ≡ line_number_of (valued_of (length out.old) case.now) }
-    ensures written_after { written.new ≡ Answers·written_of (valued_of (length out.old) case.now) }
+    ensures written_after { written.new ≡ written_of (valued_of (length out.old) case.now) }
 {
     value_by(EngineChoice::Plain, case, out, line, written)
 }
@@ -121,10 +119,10 @@ pub extern "C" fn kuyeshan_value_shared(
     line: &mut u64,
     written: &mut u64,
 ) -> u64
-    ensures value { result ≡ Answers·number_of (valued_of (length out.old) case.now) }
+    ensures value { result ≡ number_of (valued_of (length out.old) case.now) }
     ensures out_after { out.new ≡ buffer (valued_of (length out.old) case.now) out.old }
     ensures line_after { line.new ≡ line_number_of (valued_of (length out.old) case.now) }
-    ensures written_after { written.new ≡ Answers·written_of (valued_of (length out.old) case.now) }
+    ensures written_after { written.new ≡ written_of (valued_of (length out.old) case.now) }
 {
     value_by(EngineChoice::Shared, case, out, line, written)
 }
@@ -137,15 +135,15 @@ fn value_by(
     line: &mut u64,
     written: &mut u64,
 ) -> u64
-    ensures value { result ≡ Answers·number_of (valued_of (length out.old) case.now) }
+    ensures value { result ≡ number_of (valued_of (length out.old) case.now) }
     ensures out_after { out.new ≡ buffer (valued_of (length out.old) case.now) out.old }
     ensures line_after { line.new ≡ line_number_of (valued_of (length out.old) case.now) }
-    ensures written_after { written.new ≡ Answers·written_of (valued_of (length out.old) case.now) }
+    ensures written_after { written.new ≡ written_of (valued_of (length out.old) case.now) }
 {
-    let valued = valuation::value_case_by(engine, case, out);
-    *line = line_of(&valued);
-    *written = written_of(&valued);
-    number_of(&valued)
+    let answer = valuation::value_case_by(engine, case, out);
+    *line = line_told(&answer);
+    *written = written_told(&answer);
+    number_told(&answer)
 }
 
 // Writes the one line of a refusal at the start of `out`. It answers 0, or 30 where the line is longer than that.
@@ -156,13 +154,13 @@ pub extern "C" fn kuyeshan_refusal_line(
     out: &mut [u8],
     written: &mut u64,
 ) -> u64
-    ensures value { result ≡ Answers·number_of (fitting (length out.old) (refusal_line number line)) }
+    ensures value { result ≡ number_of (fitting (length out.old) (refusal_line number line)) }
     ensures out_after { out.new ≡ buffer (fitting (length out.old) (refusal_line number line)) out.old }
-    ensures written_after { written.new ≡ Answers·written_of (fitting (length out.old) (refusal_line number line)) }
+    ensures written_after { written.new ≡ written_of (fitting (length out.old) (refusal_line number line)) }
 {
     let printed = fitting::refusal_line(number, line, out);
-    *written = written_of(&printed);
-    number_of(&printed)
+    *written = written_told(&printed);
+    number_told(&printed)
 }
 
 // Rules 5.5 and 5.6: values a lone member of a plan with its amendments, all of them plain numbers: its benefit, present value,
@@ -178,15 +176,13 @@ pub extern "C" fn kuyeshan_value_member(
     ensures value { result ≡ refused_by (valuation (plan_from plan.now) (amendments_from amendments.now) rows.now (member_from member.now)) }
     ensures figures_after { figures.new ≡ figures_after (valuation (plan_from plan.now) (amendments_from amendments.now) rows.now (member_from member.now)) figures.old }
 {
-    let p = plan_from(plan);
-    let m = member_from(member);
-    match plain_engine::value_member(p, amendments, *rows, m) {
-        Ok(f) => {
-            *figures = [f.benefit, f.value, f.cost, f.liability];
-            0
-        }
-        Err(refused) => refused.refusal.number(),
+    let p = Plan::from(*plan);
+    let m = Member::from(*member);
+    let valued = plain_engine::value_member(p, amendments, *rows, m);
+    if let Ok(f) = valued {
+        *figures = [f.benefit, f.value, f.cost, f.liability];
     }
+    number_told(&valued)
 }
 
 // Rules 5.7 and 13.6: writes the case file of a plan with its amendments, its rows and its members, all of them plain numbers, at the
@@ -200,12 +196,12 @@ pub extern "C" fn kuyeshan_write_case(
     out: &mut [u8],
     written: &mut u64,
 ) -> u64
-    ensures value { result ≡ Answers·number_of (file_of (length out.old) (plain_case (plan_from plan.now) amendments.now rows.now members.now)) }
+    ensures value { result ≡ number_of (file_of (length out.old) (plain_case (plan_from plan.now) amendments.now rows.now members.now)) }
     ensures out_after { out.new ≡ buffer (file_of (length out.old) (plain_case (plan_from plan.now) amendments.now rows.now members.now)) out.old }
-    ensures written_after { written.new ≡ Answers·written_of (file_of (length out.old) (plain_case (plan_from plan.now) amendments.now rows.now members.now)) }
+    ensures written_after { written.new ≡ written_of (file_of (length out.old) (plain_case (plan_from plan.now) amendments.now rows.now members.now)) }
 {
-    let p = plan_from(plan);
+    let p = Plan::from(*plan);
     let file = writer::write_case(p, amendments, *rows, members, out);
-    *written = written_of(&file);
-    number_of(&file)
+    *written = written_told(&file);
+    number_told(&file)
 }
