@@ -1,67 +1,50 @@
--- The answers of the entries, as the plain numbers that the exports give.
+-- The answers of the entries say the number, the line and the count of bytes of what they are an equation with.
 use Prim.Native.Nat.{ℕ}
-use mathlib.Core.Path.{◌≡◌, refl}
+use mathlib.Core.Path.{◌≡◌, refl, ap, ◌∙◌}
 use mathlib.Core.List.{List}
-use mathlib.Core.Bool.{false}
-use native.Mathlib.Omega.{arith}
-use Rattle.plan.specs.declared.Plan.{Plan}
-use Rattle.casefile.specs.declared.Reading.{Reading}
-use Rattle.casefile.specs.declared.Reading.TheVariants.{Read, Refused as ReadingRefused}
-use Rattle.casefile.specs.declared.Accepting.{Accepting}
-use Rattle.casefile.specs.declared.Accepting.TheVariants.{Accepted, Refused as AcceptingRefused}
 use Rattle.rules.specs.Outcome.{Outcome, values, refusal}
-use Rattle.walk.specs.Walk.{Case, walk_of}
-use Rattle.casefile.specs.Answers.{reading, reading_of, accepting}
-use Rattle.costs.specs.declared.Figures.{Figures}
-use Rattle.costs.specs.declared.Valuation.{Valuation}
-use Rattle.costs.specs.declared.Valuation.TheVariants.{Valued, Refused as ValuationRefused}
-use Rattle.fitting.specs.declared.Answer.{Answer}
-use Rattle.fitting.specs.declared.Answer.TheVariants.{Written, Refused as AnswerRefused}
+use Rattle.walk.specs.Walk.{Case}
+use Rattle.whole_walk.specs.declared.Outline.{Outline}
+use Rattle.casefile.specs.Answers.{reading, accepting}
 use Rattle.fitting.specs.Fitting.{answer}
-use Rattle.answer_numbers.specs.Answers.{number_of, line_number_of, written_of}
-use Rattle.answer_numbers.specs.Values.{refused_by, figures_after}
+use Rattle.answer_numbers.specs.Answers.{number_of, line_number_of, bytes_of, written_of}
 
--- ---- reading
-read_is : (o : Outcome Case) {r : Reading} → r ≡ reading o → r ≡ Read → (0 ≡ number_of o) × (0 ≡ line_number_of o)
-read_is (values c) e is = (refl, refl)
-read_is (refusal k j) e is = let z : ◌≡◌ {A = ℕ} 0 1 = cc in absurd (omega arith)
+-- number and line of what is read, accepted or written
+read_number : (o : Outcome Case) → number_of (reading o) ≡ number_of o
+read_number (values c) = refl
+read_number (refusal number line) = refl
 
-refused_is : (o : Outcome Case) {r : Reading} {n l : ℕ} → r ≡ reading o → r ≡ ReadingRefused n l → (n ≡ number_of o) × (l ≡ line_number_of o)
-refused_is (values c) e is = let z : ◌≡◌ {A = ℕ} 0 1 = cc in absurd (omega arith)
-refused_is (refusal k j) e is = (cc, cc)
+read_line : (o : Outcome Case) → line_number_of (reading o) ≡ line_number_of o
+read_line (values c) = refl
+read_line (refusal number line) = refl
 
-module _ (s : List ℕ) where
-  pub read_none : {r : Reading} → r ≡ reading_of s → r ≡ Read → (0 ≡ number_of (walk_of false s)) × (0 ≡ line_number_of (walk_of false s))
-  unfolding reading_of
-  read_none = read_is (walk_of false s)
+accepted_number : (o : Outcome Case) → number_of (accepting o) ≡ number_of o
+accepted_number (values c) = refl
+accepted_number (refusal number line) = refl
 
-  pub read_refused : {r : Reading} {n l : ℕ} → r ≡ reading_of s → r ≡ ReadingRefused n l → (n ≡ number_of (walk_of false s)) × (l ≡ line_number_of (walk_of false s))
-  unfolding reading_of
-  read_refused = refused_is (walk_of false s)
+accepted_line : (o : Outcome Case) → line_number_of (accepting o) ≡ line_number_of o
+accepted_line (values c) = refl
+accepted_line (refusal number line) = refl
 
--- ---- accepting
-pub accept_none : (o : Outcome Case) {r : Accepting} {p : Plan} {k n : ℕ} → r ≡ accepting o → r ≡ Accepted p k n → (0 ≡ number_of o) × (0 ≡ line_number_of o)
-accept_none (values c) e is = (refl, refl)
-accept_none (refusal k j) e is = let z : ◌≡◌ {A = ℕ} 0 1 = cc in absurd (omega arith)
+printed_number : (o : Outcome (List ℕ)) → number_of (answer o) ≡ number_of o
+printed_number (values lines) = refl
+printed_number (refusal number line) = refl
 
-pub accept_refused : (o : Outcome Case) {r : Accepting} {n l : ℕ} → r ≡ accepting o → r ≡ AcceptingRefused n l → (n ≡ number_of o) × (l ≡ line_number_of o)
-accept_refused (values c) e is = let z : ◌≡◌ {A = ℕ} 0 1 = cc in absurd (omega arith)
-accept_refused (refusal k j) e is = (cc, cc)
+printed_line : (o : Outcome (List ℕ)) → line_number_of (answer o) ≡ line_number_of o
+printed_line (values lines) = refl
+printed_line (refusal number line) = refl
 
--- ---- writing
-pub written_is : (o : Outcome (List ℕ)) {r : Answer} {n : ℕ} → r ≡ answer o → r ≡ Written n → (0 ≡ number_of o) × (0 ≡ line_number_of o) × (n ≡ written_of o)
-written_is (values lines) e is = (refl, refl, cc)
-written_is (refusal k j) e is = let z : ◌≡◌ {A = ℕ} 0 1 = cc in absurd (omega arith)
+printed_bytes : (o : Outcome (List ℕ)) → bytes_of (answer o) ≡ written_of o
+printed_bytes (values lines) = refl
+printed_bytes (refusal number line) = refl
 
-pub write_refused : (o : Outcome (List ℕ)) {r : Answer} {n l : ℕ} → r ≡ answer o → r ≡ AnswerRefused n l → (n ≡ number_of o) × (l ≡ line_number_of o) × (0 ≡ written_of o)
-write_refused (values lines) e is = let z : ◌≡◌ {A = ℕ} 0 1 = cc in absurd (omega arith)
-write_refused (refusal k j) e is = (cc, cc, refl)
+-- from an answer that is told
+pub told_reading : {r : Outcome (Unit {0})} (o : Outcome Case) {n l : ℕ} → r ≡ reading o → n ≡ number_of r → l ≡ line_number_of r → (n ≡ number_of o) × (l ≡ line_number_of o)
+told_reading o e n l = (n ∙ ap number_of e ∙ read_number o, l ∙ ap line_number_of e ∙ read_line o)
 
--- ---- plain values
-pub valued_is : (o : Valuation) {r : Valuation} {f : Figures} (old : List ℕ) → r ≡ o → r ≡ Valued f → (0 ≡ refused_by o) × (figures_after (Valued f) old ≡ figures_after o old)
-valued_is (Valued g) old e is = (refl, cc)
-valued_is (ValuationRefused k j) old e is = let z : ◌≡◌ {A = ℕ} 0 1 = cc in absurd (omega arith)
+pub told_accepting : {r : Outcome Outline} (o : Outcome Case) {n l : ℕ} → r ≡ accepting o → n ≡ number_of r → l ≡ line_number_of r → (n ≡ number_of o) × (l ≡ line_number_of o)
+told_accepting o e n l = (n ∙ ap number_of e ∙ accepted_number o, l ∙ ap line_number_of e ∙ accepted_line o)
 
-pub value_refused : (o : Valuation) {r : Valuation} {n l : ℕ} (old : List ℕ) → r ≡ o → r ≡ ValuationRefused n l → (n ≡ refused_by o) × (old ≡ figures_after o old)
-value_refused (Valued g) old e is = let z : ◌≡◌ {A = ℕ} 0 1 = cc in absurd (omega arith)
-value_refused (ValuationRefused k j) old e is = (cc, refl)
+pub told_written : {r : Outcome ℕ} (o : Outcome (List ℕ)) {n l w : ℕ} → r ≡ answer o → n ≡ number_of r → l ≡ line_number_of r → w ≡ bytes_of r → (n ≡ number_of o) × (l ≡ line_number_of o) × (w ≡ written_of o)
+told_written o e n l w =
+    (n ∙ ap number_of e ∙ printed_number o, l ∙ ap line_number_of e ∙ printed_line o, w ∙ ap bytes_of e ∙ printed_bytes o)

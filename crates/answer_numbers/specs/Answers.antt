@@ -16,3 +16,8 @@ line_number_of (refusal number line) = line
 abbrev pub written_of : Outcome (List ℕ) → ℕ
 written_of (values lines) = length lines
 written_of (refusal number line) = 0
+
+-- the same of an answer that has counted them
+abbrev pub bytes_of : Outcome ℕ → ℕ
+bytes_of (values n) = n
+bytes_of (refusal number line) = 0

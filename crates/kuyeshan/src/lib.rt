@@ -3,7 +3,7 @@
 // `requires`, and every place that is lent has its equation on every path. embed/kuyeshan.h declares them for C.
 #![tactic(auto)]
 
-ghost use Rattle.std.specs.Prelude.{◌≡◌, false, length, MatchResult};
+ghost use Rattle.std.specs.Prelude.{◌≡◌, false, length};
 ghost use Rattle.rules.specs.Outcome.{outcome};
 ghost use Rattle.plan.specs.Numbers.{plan_from, member_from};
 ghost use Rattle.amendments.specs.Force.{amendments_from};
@@ -15,7 +15,7 @@ ghost use Rattle.report.specs.Lines.{refusal_line};
 ghost use Rattle.fitting.specs.Fitting.{fitting, buffer};
 ghost use Rattle.valuation.specs.Answers.{valued_of};
 ghost use Rattle.writer.specs.Files.{file_of};
-ghost use Rattle.answer_numbers.specs.Answers.{number_of, line_number_of, written_of};
+ghost use Rattle.answer_numbers.specs.Answers.{number_of, line_number_of, written_of, bytes_of};
 ghost use Rattle.answer_numbers.specs.Values.{refused_by, figures_after};
 
 use plan::{MOST_AMENDMENTS, MOST_MEMBERS, Member, Plan, Terms};
@@ -43,9 +43,9 @@ fn line_told<T>(answer: &Result<T, Refused>) -> u64
     }
 }
 
-// How many bytes were written.
+// How many bytes were written, 0 after a refusal.
 fn written_told(answer: &Result<usize, Refused>) -> u64
-    ensures { MatchResult answer.now (λ n. result ≡ n) (λ _. result ≡ 0) }
+    ensures { result ≡ bytes_of (outcome answer.now) }
 {
     match answer {
         Ok(n) => *n as u64,

@@ -10,7 +10,7 @@ ghost use Rattle.test_annuity_factors.specs.Question.{Question};
 use rates::Rows;
 use std::io;
 use std::io::Read;
-use test_support::{byte, fill, rows_at};
+use test_support::{fill, rows_at};
 use year_steps::Factors;
 
 // How many bytes a case has.
@@ -41,11 +41,11 @@ fn case(rt: &impl Print, input: &mut impl Read) -> io::Result<bool> {
 }
 
 fn answer(rt: &impl Print, bytes: &[u8; SIZE]) -> io::Result<()> {
-    let i = byte(bytes[0]) + 256 * byte(bytes[1]);
-    let r = age(bytes[2]);
-    let pay = byte(bytes[3]);
-    let e = age(bytes[4]);
-    let m = byte(bytes[5]);
+    let i = u64::from(u16::from_le_bytes([bytes[0], bytes[1]]));
+    let r = usize::from(bytes[2]);
+    let pay = u64::from(bytes[3]);
+    let e = usize::from(bytes[4]);
+    let m = u64::from(bytes[5]);
     write(rt, rows_at(bytes, ROWS), i, r, pay, e, m)
 }
 
@@ -107,8 +107,4 @@ fn line(rt: &impl Print, letter: &str, factors: Factors, top: usize) -> io::Resu
 
 fn number(rt: &impl Print, n: u64) -> io::Result<()> {
     print!(rt; " {n}")
-}
-
-fn age(x: u8) -> usize {
-    x as usize
 }

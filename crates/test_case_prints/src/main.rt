@@ -4,9 +4,11 @@
 // tests/case_prints.py.
 #![tactic(auto)]
 
+ghost use Rattle.std.specs.Prelude.{◌≤◌, length};
+
 use std::io;
 use std::io::Read;
-use test_support::{fill, number_at, refused};
+use test_support::{fill, refused};
 use valuation::{Refused, print_case};
 
 // The longest file that is tried.
@@ -29,60 +31,32 @@ fn main(rt: HostRuntime) -> io::Result<()> {
     Ok(())
 }
 
-// Reads a case and answers it. False where the input ends.
+// Reads a case and answers it. False where the input ends, or the case or the buffer has no room.
 fn case(rt: &impl Print, input: &mut impl Read) -> io::Result<bool> {
-    let mut lengths = [0u8; 8];
+    let mut lengths = [0; 8];
     if !fill(input, &mut lengths)? {
         return Ok(false);
     }
-    let n = number_at(&lengths, 0) as usize;
-    let room = number_at(&lengths, 4) as usize;
-    let mut bytes = [0u8; LARGEST];
-    let mut out = [165u8; ROOM];
-    of_length(rt, input, &mut bytes, n, &mut out, room + AFTER)
-}
-
-// A case of n bytes, if there is room. The buffer and what follows it end at `end`.
-fn of_length(
-    rt: &impl Print,
-    input: &mut impl Read,
-    bytes: &mut [u8],
-    n: usize,
-    out: &mut [u8],
-    end: usize,
-) -> io::Result<bool> {
-    if n > bytes.len() {
+    let [a, b, c, d, e, f, g, h] = lengths;
+    let mut bytes = [0; LARGEST];
+    let mut out = [165; ROOM];
+    let Some(case) = bytes.get_mut(..u32::from_le_bytes([a, b, c, d]) as usize) else {
         return Ok(false);
-    }
-    filled(rt, input, &mut bytes[..n], out, end)
-}
-
-// A case that fills these bytes.
-fn filled(
-    rt: &impl Print,
-    input: &mut impl Read,
-    case: &mut [u8],
-    out: &mut [u8],
-    end: usize,
-) -> io::Result<bool> {
+    };
     if !fill(input, case)? {
         return Ok(false);
     }
-    within(rt, case, out, end)
+    let room = u32::from_le_bytes([e, f, g, h]) as usize;
+    match out.get_mut(..room + AFTER) {
+        Some(out) => answered(rt, case, out, room),
+        None => Ok(false),
+    }
 }
 
-fn within(rt: &impl Print, case: &[u8], out: &mut [u8], end: usize) -> io::Result<bool> {
-    if end > out.len() {
-        return Ok(false);
-    }
-    answered(rt, case, &mut out[..end])
-}
-
-fn answered(rt: &impl Print, case: &[u8], out: &mut [u8]) -> io::Result<bool> {
-    if out.len() < AFTER {
-        return Ok(false);
-    }
-    let room = out.len() - AFTER;
+// Prints into the room, and writes what was answered, the bytes of the room and those after it.
+fn answered(rt: &impl Print, case: &[u8], out: &mut [u8], room: usize) -> io::Result<bool>
+    requires { room ≤ length out.old }
+{
     answer(rt, print_case(case, &mut out[..room]))?;
     rt.write_all(out)?;
     Ok(true)

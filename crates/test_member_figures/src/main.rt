@@ -7,7 +7,7 @@
 // program, tests/member_figures.py.
 #![tactic(auto)]
 
-ghost use Rattle.std.specs.Prelude.{◌+◌, ◌≤◌, ◌<◌};
+ghost use Rattle.std.specs.Prelude.{◌+◌, ◌*◌, ◌≤◌};
 
 use acceptance::{accept_member, accept_plan};
 use costs::Figures;
@@ -45,34 +45,26 @@ fn main(rt: HostRuntime) -> io::Result<()> {
     Ok(())
 }
 
-// Reads a case and answers it. False where the input ends.
+// Reads a case and answers it. False where the input ends, or the amendments have no place.
 fn case(rt: &impl Print, input: &mut impl Read) -> io::Result<bool> {
-    let mut bytes = [0u8; SIZE];
+    let mut bytes = [0; SIZE];
     if !fill(input, &mut bytes)? {
         return Ok(false);
     }
-    let list = amendments_of(&bytes);
-    listed(rt, &bytes, &list, long_at(&bytes, COUNT) as usize)
-}
-
-// A case with so many amendments, if there are places for them.
-fn listed(
-    rt: &impl Print,
-    bytes: &[u8; SIZE],
-    list: &[[u64; 4]],
-    count: usize,
-) -> io::Result<bool> {
-    if count > list.len() {
-        return Ok(false);
+    let count = long_at(&bytes, COUNT) as usize;
+    match amendments_of(&bytes).get(..count) {
+        Some(amendments) => {
+            answer(rt, &bytes, amendments)?;
+            Ok(true)
+        }
+        None => Ok(false),
     }
-    answer(rt, bytes, &list[..count])?;
-    Ok(true)
 }
 
 fn answer(rt: &impl Print, bytes: &[u8; SIZE], amendments: &[[u64; 4]]) -> io::Result<()> {
-    let p = plan_of(bytes);
+    let p = Plan::from(longs_at(bytes, 0));
     let rows = rows_at(bytes, ROWS);
-    let m = member_of(bytes);
+    let m = Member::from(longs_at(bytes, MEMBER));
     accepting(rt, accept_plan(p, amendments, rows))?;
     accepting(rt, accept_member(p, amendments, rows, m))?;
     match plain_engine::value_member(p, amendments, rows, m) {
@@ -96,61 +88,30 @@ fn figures(rt: &impl Print, f: Figures) -> io::Result<()> {
     println!(rt; "")
 }
 
-fn plan_of(bytes: &[u8; SIZE]) -> Plan {
-    Plan {
-        interest: long_at(bytes, 0),
-        retire: long_at(bytes, 8),
-        pay: long_at(bytes, 16),
-        formula: long_at(bytes, 24),
-        unit: long_at(bytes, 32),
-        average: long_at(bytes, 40),
-        method: long_at(bytes, 48),
-        assets: long_at(bytes, 56),
-        years: long_at(bytes, 64),
-    }
-}
-
 fn amendments_of(bytes: &[u8; SIZE]) -> [[u64; 4]; PLACES] {
-    let mut list = [[0u64; 4]; PLACES];
+    let mut list = [[0; 4]; PLACES];
     for j in 0..PLACES {
-        list[j] = amendment_of(bytes, j);
+        list[j] = longs_at(bytes, AMENDMENTS + 32 * j);
     }
     list
 }
 
-fn amendment_of(bytes: &[u8; SIZE], j: usize) -> [u64; 4]
-    requires { j < 22 }
+// N numbers of 8 bytes, one after the other.
+fn longs_at<const N: usize>(bytes: &[u8; SIZE], at: usize) -> [u64; N]
+    requires { at + 8 * N ≤ 2520 }
 {
-    let at = AMENDMENTS + 32 * j;
-    [
-        long_at(bytes, at),
-        long_at(bytes, at + 8),
-        long_at(bytes, at + 16),
-        long_at(bytes, at + 24),
-    ]
-}
-
-fn member_of(bytes: &[u8; SIZE]) -> Member {
-    Member {
-        id: long_at(bytes, MEMBER),
-        person: long_at(bytes, MEMBER + 8),
-        entry: long_at(bytes, MEMBER + 16),
-        age: long_at(bytes, MEMBER + 24),
-        salary: long_at(bytes, MEMBER + 32),
+    let mut longs = [0; N];
+    for j in 0..N {
+        longs[j] = long_at(bytes, at + 8 * j);
     }
+    longs
 }
 
 // A number of 8 bytes.
 fn long_at(bytes: &[u8; SIZE], at: usize) -> u64
     requires { at + 8 ≤ 2520 }
 {
-    let low = long(number_at(bytes, at));
-    let high = long(number_at(bytes, at + 4));
+    let low = u64::from(number_at(bytes, at));
+    let high = u64::from(number_at(bytes, at + 4));
     low + 4_294_967_296 * high
-}
-
-fn long(x: u32) -> u64
-    ensures { result < 4294967296 }
-{
-    x as u64
 }

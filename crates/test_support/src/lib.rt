@@ -27,7 +27,7 @@ pub fn fill(input: &mut impl Read, bytes: &mut [u8]) -> io::Result<bool> {
 pub fn rows_at(bytes: &[u8], at: usize) -> Rows
     requires { at + 1696 ≤ length bytes.now }
 {
-    let mut rows = [[0u32; 4]; AGES];
+    let mut rows = [[0; 4]; AGES];
     for j in 0..AGES {
         rows[j] = row_at(bytes, at + 16 * j);
     }
@@ -37,26 +37,19 @@ pub fn rows_at(bytes: &[u8], at: usize) -> Rows
 fn row_at(bytes: &[u8], at: usize) -> [u32; 4]
     requires { at + 16 ≤ length bytes.now }
 {
-    let death = number_at(bytes, at);
-    let withdrawal = number_at(bytes, at + 4);
-    let disability = number_at(bytes, at + 8);
-    let weight = number_at(bytes, at + 12);
-    [death, withdrawal, disability, weight]
+    [
+        number_at(bytes, at),
+        number_at(bytes, at + 4),
+        number_at(bytes, at + 8),
+        number_at(bytes, at + 12),
+    ]
 }
 
 // A number of 4 bytes.
 pub fn number_at(bytes: &[u8], at: usize) -> u32
     requires { at + 4 ≤ length bytes.now }
 {
-    let low = byte(bytes[at]) + 256 * byte(bytes[at + 1]);
-    let high = byte(bytes[at + 2]) + 256 * byte(bytes[at + 3]);
-    (low + 65_536 * high) as u32
-}
-
-pub fn byte(x: u8) -> u64
-    ensures { result < 256 }
-{
-    x as u64
+    u32::from_le_bytes([bytes[at], bytes[at + 1], bytes[at + 2], bytes[at + 3]])
 }
 
 // Writes one more number of a line.
