@@ -1,5 +1,5 @@
-// The lines that are printed, rules 13.2 and 13.3: amounts after a number, a signed amount, a pair of numbers. As in the crate printing, a
-// writer puts its text from a place on, and answers the place after it.
+// The lines that are printed, rules 13.2 and 13.3: amounts after a number, a signed amount, a pair of numbers. Each writer puts its text on
+// a page, as those of the crate printing do.
 #![tactic(auto)]
 
 ghost use Rattle.std.specs.Prelude.{[], ◌∷◌, ◌++◌, ◌+◌, ◌^◌, ◌≤◌, ◌<◌, length};
@@ -8,59 +8,71 @@ ghost use Rattle.printing.specs.Amounts.{whole_number, amount};
 ghost use Rattle.printed_lines.specs.Lines.{fields, signed_line, pair_line};
 ghost use Rattle.printing.specs.Puts.{Puts};
 
-use printing::{put, write_amount, write_signed, write_text, write_whole};
+use printing::Page;
 use rounding::Signed;
 
+// Rule 1.6: what stands between two values of a line.
+const SEPARATOR: u8 = b',';
+
 // Writes how a line begins that has a number: its key and the number.
-pub fn write_start(out: &mut [u8], at: usize, key: &[u8], n: u64) -> usize
-    requires { (length key.now ≤ 16) × (at + 36 < 2 ^ 64) }
-    ensures puts { Puts out.old at (key.now ++ whole_number n) out.new result }
-    ensures upper_bound { result ≤ at + 36 }
+pub fn write_start(page: &mut Page, key: &[u8], n: u64)
+    requires { (length key.now ≤ 16) × (page.old.at + 36 < 2 ^ 64) }
+    ensures puts { Puts page.old (key.now ++ whole_number n) page.new }
+    ensures upper_bound { page.new.at ≤ page.old.at + 36 }
 {
-    let a = write_text(out, at, key);
-    write_whole(out, a, n)
+    page.text(key);
+    page.whole(n);
+}
+
+// Writes a comma and a whole number.
+pub fn write_next(page: &mut Page, n: u64)
+    requires { page.old.at + 21 < 2 ^ 64 }
+    ensures puts { Puts page.old (44 ∷ whole_number n) page.new }
+    ensures upper_bound { page.new.at ≤ page.old.at + 21 }
+{
+    page.put(SEPARATOR);
+    page.whole(n);
 }
 
 // Writes a comma and an amount.
-pub fn write_field(out: &mut [u8], at: usize, cents: u64) -> usize
-    requires { at + 24 < 2 ^ 64 }
-    ensures puts { Puts out.old at (44 ∷ amount cents) out.new result }
-    ensures upper_bound { result ≤ at + 24 }
+pub fn write_field(page: &mut Page, cents: u64)
+    requires { page.old.at + 24 < 2 ^ 64 }
+    ensures puts { Puts page.old (44 ∷ amount cents) page.new }
+    ensures upper_bound { page.new.at ≤ page.old.at + 24 }
 {
-    let a = put(out, at, 44);
-    write_amount(out, a, cents)
+    page.put(SEPARATOR);
+    page.amount(cents);
 }
 
 // Writes how a line of amounts ends: three fields and byte 10.
-pub fn write_end(out: &mut [u8], at: usize, value: u64, cost: u64, liability: u64) -> usize
-    requires { at + 73 < 2 ^ 64 }
-    ensures puts { Puts out.old at (fields (value ∷ cost ∷ liability ∷ []) ++ (10 ∷ [])) out.new result }
-    ensures upper_bound { result ≤ at + 73 }
+pub fn write_end(page: &mut Page, value: u64, cost: u64, liability: u64)
+    requires { page.old.at + 73 < 2 ^ 64 }
+    ensures puts { Puts page.old (fields (value ∷ cost ∷ liability ∷ []) ++ (10 ∷ [])) page.new }
+    ensures upper_bound { page.new.at ≤ page.old.at + 73 }
 {
-    let a = write_field(out, at, value);
-    let b = write_field(out, a, cost);
-    let c = write_field(out, b, liability);
-    put(out, c, 10)
+    write_field(page, value);
+    write_field(page, cost);
+    write_field(page, liability);
+    page.put(b'\n');
 }
 
 // Writes a line of a signed amount.
-pub fn write_signed_line(out: &mut [u8], at: usize, key: &[u8], z: Signed) -> usize
-    requires { (length key.now ≤ 16) × (at + 41 < 2 ^ 64) }
-    ensures puts { Puts out.old at (signed_line key.now (integer_of z)) out.new result }
-    ensures upper_bound { result ≤ at + 41 }
+pub fn write_signed_line(page: &mut Page, key: &[u8], z: Signed)
+    requires { (length key.now ≤ 16) × (page.old.at + 41 < 2 ^ 64) }
+    ensures puts { Puts page.old (signed_line key.now (integer_of z)) page.new }
+    ensures upper_bound { page.new.at ≤ page.old.at + 41 }
 {
-    let a = write_text(out, at, key);
-    let b = write_signed(out, a, z);
-    put(out, b, 10)
+    page.text(key);
+    page.signed(z);
+    page.put(b'\n');
 }
 
 // Writes a line of two whole numbers.
-pub fn write_pair_line(out: &mut [u8], at: usize, key: &[u8], a: u64, b: u64) -> usize
-    requires { (length key.now ≤ 16) × (at + 58 < 2 ^ 64) }
-    ensures { Puts out.old at (pair_line key.now a b) out.new result }
+pub fn write_pair_line(page: &mut Page, key: &[u8], a: u64, b: u64)
+    requires { (length key.now ≤ 16) × (page.old.at + 58 < 2 ^ 64) }
+    ensures { Puts page.old (pair_line key.now a b) page.new }
 {
-    let c = write_start(out, at, key, a);
-    let d = put(out, c, 44);
-    let e = write_whole(out, d, b);
-    put(out, e, 10)
+    write_start(page, key, a);
+    write_next(page, b);
+    page.put(b'\n');
 }

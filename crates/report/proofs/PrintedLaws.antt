@@ -14,6 +14,7 @@ use Rattle.plan.specs.declared.Plan.{Plan}
 use Rattle.plan.specs.declared.Member.{Member}
 use Rattle.members.specs.Array.{member_at}
 use Rattle.printed_lines.specs.Lines.{pair_line}
+use Rattle.printing.specs.declared.Page.{Page}
 use Rattle.printing.specs.Puts.{Puts}
 use Rattle.printing.proofs.AmountLaws.{whole_most}
 use Rattle.printing.proofs.SetsLaws.{◌then◌}
@@ -26,11 +27,11 @@ use Rattle.report.specs.MemberLines.{lines_in}
 
 -- ---- the members' lines, one after the other
 module _ (members worked : List (List ℕ)) where
-  pub lines_none : (old : List ℕ) → Puts old 0 (lines_in members worked 0) old 0
+  pub lines_none : (old : Page) → Puts old (lines_in members worked 0) old
   unfolding lines_in
-  lines_none old = record { holds = refl; ends = refl }
+  lines_none old = record { writes = record { holds = refl; ends = omega arith }; same_buffer = refl }
 
-  pub line_on : (j : ℕ) {old now new : List ℕ} {k end : ℕ} → Puts old 0 (lines_in members worked j) now k → Puts now k (figures_line (member_at members j).id (figures_in worked j)) new end → Puts old 0 (lines_in members worked (j + 1)) new end
+  pub line_on : (j : ℕ) {old now new : Page} → Puts old (lines_in members worked j) now → Puts now (figures_line (member_at members j).id (figures_in worked j)) new → Puts old (lines_in members worked (j + 1)) new
   unfolding lines_in
   line_on j p q = rw (add-one j) (p then q)
 

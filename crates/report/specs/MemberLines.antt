@@ -1,9 +1,11 @@
--- The lines of the members, from the two arrays that the code keeps.
+-- The lines of the members, from the two arrays that the code keeps, and those of a report over these.
 use Rattle.std.specs.Prelude.{List, [], ◌++◌, ℕ, zero, suc, ◌≤◌, ◌<◌}
 use Rattle.costs.specs.declared.Figures.{Figures}
 use Rattle.members.specs.Array.{member_at}
 use Rattle.all_figures.specs.Worked.{figures_in, Small}
-use Rattle.report.specs.Lines.{figures_line}
+use Rattle.rounding.specs.Signed.{integer_of}
+use Rattle.report.specs.declared.Report.{Report}
+use Rattle.report.specs.Lines.{figures_line, plan_lines}
 
 -- the lines of the first n members
 unfoldable pub lines_in : (members worked : List (List ℕ)) → ℕ → List ℕ
@@ -17,3 +19,8 @@ ShortLine id f = (id ≤ 999999999) × Small f
 -- the lines of the first n members are such
 abbrev pub ShortLines : (members worked : List (List ℕ)) → ℕ → Type 0
 ShortLines members worked n = (j : ℕ) → j < n → ShortLine (member_at members j).id (figures_in worked j)
+
+-- rule 13.2: all lines of a report
+abbrev pub report_lines : Report → List ℕ
+report_lines r =
+    lines_in r.members.now r.worked.now r.count ++ plan_lines r.count r.totals (integer_of r.unfunded) (integer_of r.supplemental)

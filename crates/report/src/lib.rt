@@ -1,88 +1,89 @@
 // The lines of a report, RULES section 13: those of the members and of the plan, or the one line of a refusal. A writer
-// puts them at their place and answers the place after them; with no bytes to write to it measures. Each `requires` is what accepted
-// members show.
+// puts them on a page, and those that begin it answer how many bytes they take; with no bytes to write to they measure. Each
+// `requires` is what accepted members show.
 #![tactic(auto)]
 
-ghost use Rattle.std.specs.Prelude.{◌++◌, ◌+◌, ◌^◌, ◌≤◌, ◌<◌};
+ghost use Rattle.std.specs.Prelude.{◌+◌, ◌^◌, ◌≤◌, ◌<◌};
 ghost use Rattle.rounding.specs.Signed.{integer_of};
 ghost use Rattle.walk.specs.Lines.{most_members};
-ghost use Rattle.printing.specs.Puts.{Puts};
+ghost use Rattle.printing.specs.Puts.{PutsAt, Puts};
 ghost use Rattle.report.specs.Lines.{figures_line, plan_lines, refusal_line};
-ghost use Rattle.report.specs.MemberLines.{lines_in};
+ghost use Rattle.report.specs.MemberLines.{lines_in, report_lines};
 
 use all_figures::{Worked, figures_at, member_at};
 use costs::Figures;
 use plan::Members;
 use printed_lines::{write_end, write_field, write_pair_line, write_signed_line, write_start};
+use printing::Page;
 use rounding::Signed;
 use totals::Totals;
 
-// Writes a member's line.
-fn write_member_line(out: &mut [u8], at: usize, id: u64, f: Figures) -> usize
-    requires { at + 133 < 2 ^ 64 }
-    ensures puts { Puts out.old at (figures_line id f) out.new result }
-    ensures upper_bound { result ≤ at + 133 }
-{
-    let a = write_start(out, at, b"member=", id);
-    let b = write_field(out, a, f.benefit);
-    write_end(out, b, f.value, f.cost, f.liability)
+// What is reported of an accepted case: the first `count` of its members with their figures, the sums of these, and what the plan
+// has yet to pay.
+#[derive(Clone, Copy)]
+pub struct Report<'a> {
+    pub members: &'a Members,
+    pub worked: &'a Worked,
+    pub count: u64,
+    pub totals: Totals,
+    pub unfunded: Signed,
+    pub supplemental: Signed,
 }
 
-// Writes the members' lines, from the start on.
-fn write_member_lines(out: &mut [u8], members: &Members, worked: &Worked, count: usize) -> usize
-    requires { count ≤ most_members }
-    ensures puts { Puts out.old 0 (lines_in members.now worked.now count) out.new result }
-    ensures upper_bound { result ≤ 133000 }
-{
-    let mut at = 0;
-    let mut j = 0;
-    while j < count {
-        let m = member_at(members, j);
-        let f = figures_at(worked, j);
-        at = write_member_line(out, at, m.id, f);
-        j += 1;
+impl Report<'_> {
+    // Writes the members' lines.
+    fn write_members(&self, page: &mut Page)
+        requires { (self.now.count ≤ most_members) × (page.old.at + 133000 < 2 ^ 64) }
+        ensures puts { Puts page.old (lines_in self.now.members.now self.now.worked.now self.now.count) page.new }
+        ensures upper_bound { page.new.at ≤ page.old.at + 133000 }
+    {
+        for j in 0..self.count as usize {
+            let m = member_at(self.members, j);
+            let f = figures_at(self.worked, j);
+            write_member_line(page, m.id, f);
+        }
     }
-    at
+
+    // Writes the plan's three lines.
+    fn write_plan(&self, page: &mut Page)
+        requires { page.old.at + 191 < 2 ^ 64 }
+        ensures { Puts page.old (plan_lines self.now.count self.now.totals (integer_of self.now.unfunded) (integer_of self.now.supplemental)) page.new }
+    {
+        let t = self.totals;
+        write_start(page, b"total=", self.count);
+        write_end(page, t.value, t.cost, t.liability);
+        write_signed_line(page, b"unfunded=", self.unfunded);
+        write_signed_line(page, b"supplemental=", self.supplemental);
+    }
+
+    // Writes all lines, from the start of the buffer on.
+    pub fn write(&self, out: &mut [u8]) -> usize
+        requires { self.now.count ≤ most_members }
+        ensures { PutsAt out.old 0 (report_lines self.now) out.new result }
+    {
+        let mut page = Page::new(out);
+        self.write_members(&mut page);
+        self.write_plan(&mut page);
+        page.at()
+    }
 }
 
-// Writes the plan's three lines.
-fn write_plan_lines(
-    out: &mut [u8],
-    at: usize,
-    count: u64,
-    t: Totals,
-    unfunded: Signed,
-    supplemental: Signed,
-) -> usize
-    requires { at + 191 < 2 ^ 64 }
-    ensures { Puts out.old at (plan_lines count t (integer_of unfunded) (integer_of supplemental)) out.new result }
+// Writes a member's line.
+fn write_member_line(page: &mut Page, id: u64, f: Figures)
+    requires { page.old.at + 133 < 2 ^ 64 }
+    ensures puts { Puts page.old (figures_line id f) page.new }
+    ensures upper_bound { page.new.at ≤ page.old.at + 133 }
 {
-    let a = write_start(out, at, b"total=", count);
-    let b = write_end(out, a, t.value, t.cost, t.liability);
-    let c = write_signed_line(out, b, b"unfunded=", unfunded);
-    write_signed_line(out, c, b"supplemental=", supplemental)
+    write_start(page, b"member=", id);
+    write_field(page, f.benefit);
+    write_end(page, f.value, f.cost, f.liability);
 }
 
-// Writes all lines of an accepted case.
-pub fn write_lines(
-    out: &mut [u8],
-    members: &Members,
-    worked: &Worked,
-    count: u64,
-    t: Totals,
-    unfunded: Signed,
-    supplemental: Signed,
-) -> usize
-    requires { count ≤ most_members }
-    ensures { Puts out.old 0 (lines_in members.now worked.now count ++ plan_lines count t (integer_of unfunded) (integer_of supplemental)) out.new result }
-{
-    let at = write_member_lines(out, members, worked, count as usize);
-    write_plan_lines(out, at, count, t, unfunded, supplemental)
-}
-
-// Rule 13.3: writes the line of a refusal.
+// Rule 13.3: writes the line of a refusal, from the start of the buffer on.
 pub fn write_refusal(out: &mut [u8], number: u64, line: u64) -> usize
-    ensures { Puts out.old 0 (refusal_line number line) out.new result }
+    ensures { PutsAt out.old 0 (refusal_line number line) out.new result }
 {
-    write_pair_line(out, 0, b"refused=", number, line)
+    let mut page = Page::new(out);
+    write_pair_line(&mut page, b"refused=", number, line);
+    page.at()
 }

@@ -4,6 +4,7 @@ use mathlib.Core.List.{List, [], ◌++◌}
 use Prim.Native.Nat.{ℕ, zero, suc, ◌<◌}
 use native.Mathlib.Omega.{arith}
 use lib.ListN.{length, get_or-eq_default}
+use Rattle.printing.specs.declared.Page.{Page}
 use Rattle.printing.specs.Puts.{Puts}
 use Rattle.printing.proofs.SetsLaws.{◌then◌}
 use Rattle.written.specs.Written.{word_of, closed_lines}
@@ -15,9 +16,9 @@ no_word words zero past = refl
 no_word words (suc k) past = get_or-eq_default words [] (omega (arith, past (omega arith)))
 
 -- nothing is written
-pub no_text : (old : List ℕ) (at : ℕ) → Puts old at [] old at
-no_text old at = record { holds = refl; ends = omega arith }
+pub no_text : (old : Page) → Puts old [] old
+no_text old = record { writes = record { holds = refl; ends = omega arith }; same_buffer = refl }
 
 -- some lines and then others
-pub lines_then : (a b : List (List ℕ)) {old x new : List ℕ} {at i end : ℕ} → Puts old at (closed_lines a) x i → Puts x i (closed_lines b) new end → Puts old at (closed_lines (a ++ b)) new end
+pub lines_then : (a b : List (List ℕ)) {old x new : Page} → Puts old (closed_lines a) x → Puts x (closed_lines b) new → Puts old (closed_lines (a ++ b)) new
 lines_then a b p q = rw (closed_both a b) (p then q)

@@ -23,6 +23,7 @@ pub use plain_engine::value_member;
 pub use plan::{Amendments, Member, Plan};
 use plan::{MOST_AMENDMENTS, MOST_MEMBERS, Members};
 use rates::{AGES, Rows};
+use report::Report;
 pub use rules::refusals::{Refusal, Refused};
 pub use totals::EngineChoice;
 use totals::work;
@@ -67,7 +68,15 @@ fn value_accepted(
     let totals = work(engine, p, rows, members, count as usize, &mut worked);
     let unfunded = unfunded_of(totals.liability, p.assets);
     let supplemental = supplemental_of(unfunded, p.interest, p.years);
-    fit_lines(out, members, &worked, count, totals, unfunded, supplemental)
+    let report = Report {
+        members,
+        worked: &worked,
+        count,
+        totals,
+        unfunded,
+        supplemental,
+    };
+    fit_lines(out, report)
 }
 
 // Rule 13.1, what the program prints of a case file, at the start of `out`: its lines, or the one line of its refusal.

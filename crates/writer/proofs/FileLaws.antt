@@ -14,7 +14,7 @@ use Rattle.rule_order.proofs.ValuedLaws.{amended_kept}
 use Rattle.plan.specs.declared.Plan.{Plan}
 use Rattle.rules.specs.Outcome.{refusal as refused-at}
 use Rattle.walk.specs.Walk.{Case}
-use Rattle.printing.specs.Puts.{Puts}
+use Rattle.printing.specs.Puts.{PutsAt}
 use Rattle.judging.specs.Refusing.{plain_case, case_refusal}
 use Rattle.judging.proofs.OrderLaws.{none_refused}
 use Rattle.judging.proofs.Exactly.{refused_exactly}
@@ -53,6 +53,6 @@ module _ (c : Case) (old : List ℕ) where
   file_too_long none is not = rw none (too_long_by old (written c) is not)
 
   -- or written
-  pub file_written : {fits : Bool} {out : List ℕ} {end : ℕ} → case_refusal c ≡ 0 → fits ≡ leb (length (written c)) (length old) → fits ≡ true → Puts old 0 (written c) out end → (Written end ≡ answer (file_of (length old) c)) × (out ≡ buffer (file_of (length old) c) old)
+  pub file_written : {fits : Bool} {out : List ℕ} {end : ℕ} → case_refusal c ≡ 0 → fits ≡ leb (length (written c)) (length old) → fits ≡ true → PutsAt old 0 (written c) out end → (Written end ≡ answer (file_of (length old) c)) × (out ≡ buffer (file_of (length old) c) old)
   unfolding file_of
   file_written none is fits w = rw none (written_by is fits w)

@@ -7,5 +7,5 @@ returns-then-not-lines_fit c = let both = too_long_by c.args.out.now _ c.lines_f
     record { value = both.0; out_after = both.1 }
 
 pub returns : goal.returns
-returns c = let both = written_by c.lines_fit.ensures c.if-not-lines_fit.false c.write_lines-end.ensures in
+returns c = let both = written_by c.lines_fit.ensures c.if-not-lines_fit.false c.write.ensures in
     record { value = both.0; out_after = both.1 }

@@ -8,16 +8,16 @@ use Rattle.report.proofs.LineLengths.{lines_most, plan_lines_most}
 use Rattle.fitting.proofs.FittingLaws.{surely, measured}
 use Rattle.fitting.proofs.lines_fit.Goals as goal
 
-pub overflow_mul-count : goal.overflow_mul-count
-overflow_mul-count c = omega (arith, c.requires.0)
+pub overflow_mul-report : goal.overflow_mul-report
+overflow_mul-report c = omega (arith, c.requires.0)
 
-pub overflow_add-count : goal.overflow_add-count
-overflow_add-count c = omega (arith, c.requires.0)
+pub overflow_add-report : goal.overflow_add-report
+overflow_add-report c = omega (arith, c.requires.0)
 
-pub returns-then-count-room : goal.returns-then-count-room
-returns-then-count-room c = let a = c.args in
-    let plan = plan_lines_most a.count a.t a.unfunded a.supplemental c.requires.0 (search rules) (search rules) (search rules) (search rules) (search rules) in
-    surely (lines_in a.members.now a.worked.now a.count) (plan_lines a.count a.t (integer_of a.unfunded) (integer_of a.supplemental)) a.count a.room (lines_most a.members.now a.worked.now a.count c.requires.1) plan (omega arith)
+pub returns-then-report-room : goal.returns-then-report-room
+returns-then-report-room c = let r = c.args.report in
+    let plan = plan_lines_most r.count r.totals r.unfunded r.supplemental c.requires.0 (search rules) (search rules) (search rules) (search rules) (search rules) in
+    surely (lines_in r.members.now r.worked.now r.count) (plan_lines r.count r.totals (integer_of r.unfunded) (integer_of r.supplemental)) r.count c.args.room (lines_most r.members.now r.worked.now r.count c.requires.1) plan (omega arith)
 
 pub returns : goal.returns
-returns c = measured _ c.write_lines-needed.ensures
+returns c = measured _ c.write-needed.ensures

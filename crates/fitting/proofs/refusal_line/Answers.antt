@@ -8,5 +8,5 @@ returns-then-out-write_refusal c = let both = too_long c.args.out.now _ (omega (
     record { value = both.0; out_after = both.1 }
 
 pub returns : goal.returns
-returns c = let both = written (omega (arith, c.write_refusal.ensures.ends, c.if-out-write_refusal.false)) c.write_refusal-end.ensures in
+returns c = let both = written (omega (arith, c.write_refusal.ensures.ends, c.if-out-write_refusal.false)) c.write_refusal-2.ensures in
     record { value = both.0; out_after = both.1 }

@@ -1,12 +1,12 @@
 -- `term_lines::write_terms` meets its contract.
-use borrow.Author.Rules.{rules}
 use Rattle.written.specs.Written.{term_lines}
 use Rattle.term_lines.proofs.TextLaws.{lines_then}
 use Rattle.term_lines.proofs.write_terms.Goals as goal
 
-pub returns : goal.returns
+pub returns-clause-puts : goal.returns-clause-puts
 unfolding term_lines
-returns c = let pension = c.write_pension_terms-a.ensures in
-    let benefit = c.write_benefit_terms-b.ensures in
-    let cost = c.write_cost_terms.ensures in
-    record { puts = lines_then _ _ (lines_then _ _ pension.puts benefit.puts) cost.puts; upper_bound = search rules }
+returns-clause-puts c = let three = lines_then _ _ (lines_then _ _ c.write_whole_line.ensures.puts c.write_whole_line-2.ensures.puts) c.write_whole_line-3.ensures.puts in
+    let formula = rw c.formula_word.ensures.value at c.write_word_line.ensures.puts in
+    let six = lines_then _ _ (lines_then _ _ (lines_then _ _ three formula) c.write_whole_line-4.ensures.puts) c.write_whole_line-5.ensures.puts in
+    let method = rw c.method_word.ensures.value at c.write_word_line-2.ensures.puts in
+    lines_then _ _ (lines_then _ _ (lines_then _ _ six method) c.write_amount_line.ensures.puts) c.write_whole_line-6.ensures.puts

@@ -4,6 +4,6 @@ use Rattle.printing.proofs.SetsLaws.{◌then◌}
 use Rattle.written.specs.Written.{closed_lines}
 use Rattle.term_lines.proofs.write_whole_line.Goals as goal
 
-pub returns : goal.returns
+pub returns-clause-puts : goal.returns-clause-puts
 unfolding closed_lines
-returns c = record { puts = c.write_start-a.ensures.puts then c.put.ensures; upper_bound = search rules }
+returns-clause-puts c = search (rules, ◌then◌)

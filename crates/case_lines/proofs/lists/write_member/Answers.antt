@@ -6,8 +6,7 @@ use Rattle.written.specs.Written.{member_line}
 use Rattle.case_lines.proofs.TextLaws.{five_values}
 use Rattle.case_lines.proofs.lists.write_member.Goals as goal
 
-pub returns : goal.returns
+pub returns-clause-puts : goal.returns-clause-puts
 unfolding member_line
-returns c = let m = c.args.m in
-    let four = c.write_four-a.ensures in
-    record { puts = five_values (bytes "member=") _ _ _ _ (amount m.salary) four.puts (search rules) c.put.ensures; upper_bound = search rules }
+returns-clause-puts c =
+    five_values (bytes "member=") _ _ _ _ (amount c.args.m.salary) c.write_four.ensures.puts (search rules) c.put.ensures
