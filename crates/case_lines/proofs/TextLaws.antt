@@ -9,10 +9,10 @@ use lib.Seq.{take-suc, length-take-le}
 use Rattle.printing.specs.Amounts.{whole_number}
 use Rattle.printing.specs.declared.Page.{Page}
 use Rattle.printing.specs.Puts.{Puts}
-use Rattle.printing.proofs.SetsLaws.{◌then◌}
+use Rattle.printing.proofs.SetsLaws.{nothing, ◌then◌}
 use Rattle.written.specs.Written.{with_commas, row_line, row_lines, closed_lines}
 use Rattle.written.proofs.LineTexts.{rows_both}
-use Rattle.term_lines.proofs.TextLaws.{no_text, lines_then}
+use Rattle.term_lines.proofs.TextLaws.{lines_then}
 
 -- ---- values
 -- four, one by one
@@ -32,7 +32,7 @@ five_values key a b c d e four fifth ends =
 -- no line is written
 pub no_lines : (old : Page) → Puts old (closed_lines []) old
 unfolding closed_lines
-no_lines old = no_text old
+no_lines old = nothing old
 
 -- the lines of a list's first values, and one more
 pub line_on : {B : Type 0} (line : B → List ℕ) (from : List ℕ → B) (l : List (List ℕ)) (j : ℕ) {old x new : Page} → j < length l → Puts old (closed_lines (map line (map from (take j l)))) x → Puts x (closed_lines (line (from (get_or l j [])) ∷ [])) new → Puts old (closed_lines (map line (map from (take (j + 1) l)))) new

@@ -2,10 +2,10 @@
 // a page, as those of the crate printing do.
 #![tactic(auto)]
 
-ghost use Rattle.std.specs.Prelude.{[], ◌∷◌, ◌++◌, ◌+◌, ◌^◌, ◌≤◌, ◌<◌, length};
+ghost use Rattle.std.specs.Prelude.{◌∷◌, ◌++◌, ◌+◌, ◌*◌, ◌^◌, ◌≤◌, ◌<◌, length};
 ghost use Rattle.rounding.specs.Signed.{integer_of};
 ghost use Rattle.printing.specs.Amounts.{whole_number, amount};
-ghost use Rattle.printed_lines.specs.Lines.{fields, signed_line, pair_line};
+ghost use Rattle.printed_lines.specs.Lines.{fields, amounts_line, signed_line, pair_line};
 ghost use Rattle.printing.specs.Puts.{Puts};
 
 use printing::Page;
@@ -44,15 +44,25 @@ pub fn write_field(page: &mut Page, cents: u64)
     page.amount(cents);
 }
 
-// Writes how a line of amounts ends: three fields and byte 10.
-pub fn write_end(page: &mut Page, value: u64, cost: u64, liability: u64)
-    requires { page.old.at + 73 < 2 ^ 64 }
-    ensures puts { Puts page.old (fields (value ∷ cost ∷ liability ∷ []) ++ (10 ∷ [])) page.new }
-    ensures upper_bound { page.new.at ≤ page.old.at + 73 }
+// Writes amounts, each after a comma.
+fn write_fields(page: &mut Page, amounts: &[u64])
+    requires { page.old.at + 24 * length amounts.now < 2 ^ 64 }
+    ensures puts { Puts page.old (fields amounts.now) page.new }
+    ensures upper_bound { page.new.at ≤ page.old.at + 24 * length amounts.now }
 {
-    write_field(page, value);
-    write_field(page, cost);
-    write_field(page, liability);
+    for &cents in amounts {
+        write_field(page, cents);
+    }
+}
+
+// Writes a line of a whole number and amounts.
+pub fn write_amounts_line(page: &mut Page, key: &[u8], n: u64, amounts: &[u64])
+    requires { (length key.now ≤ 16) × (page.old.at + 24 * length amounts.now + 37 < 2 ^ 64) }
+    ensures puts { Puts page.old (amounts_line key.now n amounts.now) page.new }
+    ensures upper_bound { page.new.at ≤ page.old.at + 24 * length amounts.now + 37 }
+{
+    write_start(page, key, n);
+    write_fields(page, amounts);
     page.put(b'\n');
 }
 

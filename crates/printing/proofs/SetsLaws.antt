@@ -1,5 +1,5 @@
 -- Texts in a buffer: what is written part by part is written whole. `sets` is lib.Seq's.
-use mathlib.Core.Path.{◌≡◌, ◌∙◌}
+use mathlib.Core.Path.{◌≡◌, refl, ◌∙◌}
 use mathlib.Core.List.{List, [], ◌∷◌, ◌++◌, append-nil}
 use Prim.Native.Nat.{ℕ, suc, ◌+◌, ◌-◌, ◌≤◌, ◌<◌}
 use native.Mathlib.Omega.{arith}
@@ -27,6 +27,10 @@ pub ◌before◌ : {old new end : List ℕ} {at k j : ℕ} {a b : List ℕ} → 
 -- the same on a page
 pub ◌then◌ : {old new end : Page} {a b : List ℕ} → Puts old a new → Puts new b end → Puts old (a ++ b) end
 ◌then◌ p q = record { writes = p.writes before q.writes; same_buffer = q.same_buffer ∙ p.same_buffer }
+
+-- nothing is written
+pub nothing : (old : Page) → Puts old [] old
+nothing old = record { writes = record { holds = refl; ends = omega arith }; same_buffer = refl }
 
 -- a text byte by byte
 pub byte_on : (s : List ℕ) (i : ℕ) {old now new : Page} → i < length s → Puts old (take i s) now → Puts now (get_or s i 0 ∷ []) new → Puts old (take (i + 1) s) new

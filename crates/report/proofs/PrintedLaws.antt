@@ -17,7 +17,7 @@ use Rattle.printed_lines.specs.Lines.{pair_line}
 use Rattle.printing.specs.declared.Page.{Page}
 use Rattle.printing.specs.Puts.{Puts}
 use Rattle.printing.proofs.AmountLaws.{whole_most}
-use Rattle.printing.proofs.SetsLaws.{◌then◌}
+use Rattle.printing.proofs.SetsLaws.{nothing, ◌then◌}
 use Rattle.totals.specs.declared.Totals.{Totals}
 use Rattle.totals.specs.Totals.{totals, unfunded, supplemental}
 use Rattle.all_figures.specs.Worked.{figures_in, members_in, AreWorked}
@@ -29,7 +29,7 @@ use Rattle.report.specs.MemberLines.{lines_in}
 module _ (members worked : List (List ℕ)) where
   pub lines_none : (old : Page) → Puts old (lines_in members worked 0) old
   unfolding lines_in
-  lines_none old = record { writes = record { holds = refl; ends = omega arith }; same_buffer = refl }
+  lines_none old = nothing old
 
   pub line_on : (j : ℕ) {old now new : Page} → Puts old (lines_in members worked j) now → Puts now (figures_line (member_at members j).id (figures_in worked j)) new → Puts old (lines_in members worked (j + 1)) new
   unfolding lines_in

@@ -13,7 +13,7 @@ ghost use Rattle.report.specs.MemberLines.{lines_in, report_lines};
 use all_figures::{Worked, figures_at, member_at};
 use costs::Figures;
 use plan::Members;
-use printed_lines::{write_end, write_field, write_pair_line, write_signed_line, write_start};
+use printed_lines::{write_amounts_line, write_pair_line, write_signed_line};
 use printing::Page;
 use rounding::Signed;
 use totals::Totals;
@@ -50,8 +50,8 @@ impl Report<'_> {
         ensures { Puts page.old (plan_lines self.now.count self.now.totals (integer_of self.now.unfunded) (integer_of self.now.supplemental)) page.new }
     {
         let t = self.totals;
-        write_start(page, b"total=", self.count);
-        write_end(page, t.value, t.cost, t.liability);
+        let sums = [t.value, t.cost, t.liability];
+        write_amounts_line(page, b"total=", self.count, &sums);
         write_signed_line(page, b"unfunded=", self.unfunded);
         write_signed_line(page, b"supplemental=", self.supplemental);
     }
@@ -74,9 +74,8 @@ fn write_member_line(page: &mut Page, id: u64, f: Figures)
     ensures puts { Puts page.old (figures_line id f) page.new }
     ensures upper_bound { page.new.at ≤ page.old.at + 133 }
 {
-    write_start(page, b"member=", id);
-    write_field(page, f.benefit);
-    write_end(page, f.value, f.cost, f.liability);
+    let amounts = [f.benefit, f.value, f.cost, f.liability];
+    write_amounts_line(page, b"member=", id, &amounts);
 }
 
 // Rule 13.3: writes the line of a refusal, from the start of the buffer on.
