@@ -86,20 +86,15 @@ fn share(factor: u64, part: u64, whole: u64) -> u64
 }
 
 // Rule 5.4: the method of a code.
+#[tactic(auto, unfolding(costs::specs::Valuation::method_of))]
 pub fn method_of(code: u64) -> Method
     ensures { result ≡ method_of code }
 {
-    if code == 1 {
-        return Method::AB;
+    match code {
+        1 => Method::AB,
+        2 => Method::BD,
+        3 => Method::BP,
+        4 => Method::CD,
+        _ => Method::CP,
     }
-    if code == 2 {
-        return Method::BD;
-    }
-    if code == 3 {
-        return Method::BP;
-    }
-    if code == 4 {
-        return Method::CD;
-    }
-    Method::CP
 }

@@ -14,10 +14,8 @@ pub fn fill_plainly(p: Plan, rows: Rows, members: &Members, count: usize, worked
 {
     // Written whole first, so that its length is known to the proof.
     *worked = [[0u64; 4]; MOST_MEMBERS];
-    let mut j = 0;
-    while j < count {
+    for j in 0..count {
         let own = plain_engine::figures_of(p, rows, member_at(members, j));
         worked[j] = numbers_of(own);
-        j += 1;
     }
 }

@@ -13,30 +13,23 @@ ghost use Rattle.parts.specs.Parts.{parts_at};
 ghost use Rattle.measures.specs.Temporary.{temporary as Temporary·temporary};
 ghost use Rattle.shared_engine.specs.Shared.{Shared};
 
-use columns::{Columns, Marks, pay_between, working_between};
+use columns::Columns;
 use costs::Figures;
 use measures::parts_from;
 use parts::{Parts, figures_from, method_of};
 use plan::{Member, Method, Plan};
 use rates::Rows;
-use year_steps::Factors;
+use year_steps::{Amount, Factors};
 
 // The figures of an accepted member at its own age, by the plan's method and by the shared annuities.
-pub fn figures_of(
-    p: Plan,
-    rows: &Rows,
-    m: Member,
-    g: &Factors,
-    columns: &mut Columns,
-    marks: &mut Marks,
-) -> Figures
-    requires { MemberRanges p rows.now m × Shared p rows.now g.now columns.old marks.old }
+pub fn figures_of(p: Plan, rows: &Rows, m: Member, g: &Factors, columns: &mut Columns) -> Figures
+    requires { MemberRanges p rows.now m × Shared p rows.now g.now columns.old.factors columns.old.filled }
     ensures value { result ≡ figures p rows.now m }
-    ensures shared { Shared p rows.now g.now columns.new marks.new }
-    ensures columns_kept { ColumnsKept columns.old marks.old columns.new marks.new }
+    ensures shared { Shared p rows.now g.now columns.new.factors columns.new.filled }
+    ensures columns_kept { ColumnsKept columns.old.factors columns.old.filled columns.new.factors columns.new.filled }
 {
     let method = method_of(p.method);
-    let parts = parts_at(p, rows, m, method, m.age as usize, g, columns, marks);
+    let parts = parts_at(p, rows, m, method, m.age as usize, g, columns);
     figures_from(parts, method)
 }
 
@@ -49,15 +42,14 @@ fn parts_at(
     k: usize,
     g: &Factors,
     columns: &mut Columns,
-    marks: &mut Marks,
 ) -> Parts
-    requires { MemberRanges p rows.now m × (m.entry ≤ k) × (k ≤ p.retire) × Filled (G (plan_basis p rows.now)) p.retire 15 g.now × FilledColumns (Temporary·temporary (plan_basis p rows.now) method) columns.old marks.old }
+    requires { MemberRanges p rows.now m × (m.entry ≤ k) × (k ≤ p.retire) × Filled (G (plan_basis p rows.now)) p.retire 15 g.now × FilledColumns (Temporary·temporary (plan_basis p rows.now) method) columns.old.factors columns.old.filled }
     ensures value { result ≡ parts_at (setting_of p rows.now m) k method }
-    ensures filled_columns { FilledColumns (Temporary·temporary (plan_basis p rows.now) method) columns.new marks.new }
-    ensures columns_kept { ColumnsKept columns.old marks.old columns.new marks.new }
+    ensures filled_columns { FilledColumns (Temporary·temporary (plan_basis p rows.now) method) columns.new.factors columns.new.filled }
+    ensures columns_kept { ColumnsKept columns.old.factors columns.old.filled columns.new.factors columns.new.filled }
 {
-    let past = temporary(p, rows, m, method, k, columns, marks);
-    let all = temporary(p, rows, m, method, p.retire as usize, columns, marks);
+    let past = temporary(p, rows, m, method, k, columns);
+    let all = temporary(p, rows, m, method, p.retire as usize, columns);
     parts_from(p, rows, m, method, k, g, past, all)
 }
 
@@ -69,20 +61,17 @@ fn temporary(
     method: Method,
     e: usize,
     columns: &mut Columns,
-    marks: &mut Marks,
 ) -> u64
-    requires { MemberRanges p rows.now m × (m.entry ≤ e) × (e ≤ p.retire) × FilledColumns (Temporary·temporary (plan_basis p rows.now) method) columns.old marks.old }
+    requires { MemberRanges p rows.now m × (m.entry ≤ e) × (e ≤ p.retire) × FilledColumns (Temporary·temporary (plan_basis p rows.now) method) columns.old.factors columns.old.filled }
     ensures value { result ≡ Temporary·temporary (plan_basis p rows.now) method m.entry e }
-    ensures filled_columns { FilledColumns (Temporary·temporary (plan_basis p rows.now) method) columns.new marks.new }
-    ensures columns_kept { ColumnsKept columns.old marks.old columns.new marks.new }
+    ensures filled_columns { FilledColumns (Temporary·temporary (plan_basis p rows.now) method) columns.new.factors columns.new.filled }
+    ensures columns_kept { ColumnsKept columns.old.factors columns.old.filled columns.new.factors columns.new.filled }
 {
     let r = p.retire as usize;
     let y = m.entry as usize;
     match method {
-        Method::AB => 0,
-        Method::BD => 0,
-        Method::BP => 0,
-        Method::CD => working_between(rows, r, p.interest, columns, marks, y, e),
-        Method::CP => pay_between(rows, r, p.interest, columns, marks, y, e),
+        Method::AB | Method::BD | Method::BP => 0,
+        Method::CD => columns.between(rows, r, p.interest, Amount::One, y, e),
+        Method::CP => columns.between(rows, r, p.interest, Amount::Weight, y, e),
     }
 }

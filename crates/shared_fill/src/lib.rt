@@ -7,9 +7,9 @@ ghost use Rattle.all_figures.specs.Worked.{AcceptedMembers, AreWorked};
 
 use all_figures::{Worked, member_at, numbers_of};
 use annuity::deferred_annuity;
-use columns::{Columns, ENDS, Marks};
+use columns::Columns;
 use plan::{MOST_MEMBERS, Members, Plan};
-use rates::{AGES, Rows};
+use rates::Rows;
 use year_steps::Factors;
 
 // Works each member's figures into the array, by the shared engine: G is worked here, and no column is filled yet.
@@ -18,18 +18,8 @@ pub fn fill_shared(p: Plan, rows: Rows, members: &Members, count: usize, worked:
     ensures { AreWorked p rows members.now worked.new count }
 {
     let g = deferred_annuity(rows, p.retire as usize, p.pay, p.interest);
-    let mut columns = [[0u64; AGES]; ENDS];
-    let mut marks = [false; ENDS];
-    fill_from_shared(
-        p,
-        &rows,
-        members,
-        count,
-        &g,
-        &mut columns,
-        &mut marks,
-        worked,
-    );
+    let mut columns = Columns::new();
+    fill_from_shared(p, &rows, members, count, &g, &mut columns, worked);
 }
 
 // Works each member's figures into the array from the annuities that are shared. Past the last member the array is left
@@ -41,18 +31,15 @@ fn fill_from_shared(
     count: usize,
     g: &Factors,
     columns: &mut Columns,
-    marks: &mut Marks,
     worked: &mut Worked,
 )
-    requires { AcceptedMembers p rows.now members.now count × Shared p rows.now g.now columns.old marks.old }
+    requires { AcceptedMembers p rows.now members.now count × Shared p rows.now g.now columns.old.factors columns.old.filled }
     ensures are_worked { AreWorked p rows.now members.now worked.new count }
-    ensures shared { Shared p rows.now g.now columns.new marks.new }
+    ensures shared { Shared p rows.now g.now columns.new.factors columns.new.filled }
 {
     *worked = [[0u64; 4]; MOST_MEMBERS];
-    let mut j = 0;
-    while j < count {
-        let f = shared_engine::figures_of(p, rows, member_at(members, j), g, columns, marks);
+    for j in 0..count {
+        let f = shared_engine::figures_of(p, rows, member_at(members, j), g, columns);
         worked[j] = numbers_of(f);
-        j += 1;
     }
 }

@@ -73,13 +73,11 @@ fn sum_figures(worked: &Worked, count: usize) -> Totals
     let mut value = 0;
     let mut cost = 0;
     let mut liability = 0;
-    let mut j = 0;
-    while j < count {
+    for j in 0..count {
         let f = figures_at(worked, j);
         value += f.value;
         cost += f.cost;
         liability += f.liability;
-        j += 1;
     }
     Totals {
         value,

@@ -1,12 +1,7 @@
 -- `plain_fill::fill_plainly` meets its contract. The loop's invariant: the figures of the members so far stand in the array.
-use mathlib.Core.Path.{◌≡◌}
-use Prim.Native.Nat.{◌-◌, ◌≤◌}
-use lib.ListN.{length}
+use Rattle.std.proofs.Common.{◌≡◌, length}
 use Rattle.all_figures.specs.Worked.{AreWorked}
 use Rattle.plain_fill.proofs.fill_plainly.Given as goal
 
 abbrev pub invariant-loop-j : goal.invariant-loop-j
-invariant-loop-j l = (l.j ≤ l.count) × (length l.worked ≡ 1000) × AreWorked l.p l.rows l.members l.worked l.j
-
-abbrev pub decreases-loop-j : goal.decreases-loop-j
-decreases-loop-j l = l.count - l.j
+invariant-loop-j l = (length l.worked ≡ 1000) × AreWorked l.p l.rows l.members l.worked l.j

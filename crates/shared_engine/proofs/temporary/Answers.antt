@@ -1,14 +1,14 @@
--- `shared_engine::temporary` meets its contract.
-use mathlib.Core.List.{List}
-use Prim.Native.Nat.{ℕ, ◌≤◌}
-use native.Mathlib.Omega.{arith}
+-- `shared_engine::temporary` meets its contract: T and Z are cases of the one factor, and don't look at how often a pension is paid.
+use Rattle.std.proofs.Common.{List, ℕ, ◌≤◌, arith}
 use Rattle.rates.specs.Table.{Table}
 use Rattle.plan.specs.declared.Plan.{Plan}
 use Rattle.plan.specs.declared.Member.{Member}
 use Rattle.plan.specs.Ranges.{MemberRanges}
 use Rattle.factors.specs.Basis.{basis}
+use Rattle.factors.specs.Factors.{T, Z}
 use Rattle.factors.proofs.Bases.{T_payable, Z_payable}
-use Rattle.columns.proofs.ColumnLaws.{as_they_were}
+use Rattle.year_steps.specs.Filled.{paid_of, factor}
+use Rattle.columns.proofs.ColumnLaws.{working_is, pay_is}
 use Rattle.costs.proofs.Needs.{facts}
 use Rattle.shared_engine.proofs.temporary.Goals as goal
 
@@ -18,27 +18,32 @@ asked p rows m accepted e from to =
     let f = facts p rows m accepted in
     (f.table, f.head.interest, accepted.in_range.grown, from, omega (arith, f.head.retire.1))
 
-pub working_between-requires : goal.working_between-requires
-working_between-requires c = let a = c.args in
+pub between-requires : goal.between-requires
+unfolding factor paid_of T
+between-requires c = let a = c.args in
     let q = asked a.p a.rows.now a.m c.requires.0 a.e c.requires.1 c.requires.2 in
     (q.0, omega (arith, q.1), q.2, q.3, q.4, rw (T_payable a.p.pay (basis a.rows.now a.p.retire a.p.interest)) at (rw c.in-CD.is at c.requires.3))
 
-pub pay_between-requires : goal.pay_between-requires
-pay_between-requires c = let a = c.args in
+pub between-requires-in-CP : goal.between-requires-in-CP
+unfolding factor paid_of Z
+between-requires-in-CP c = let a = c.args in
     let q = asked a.p a.rows.now a.m c.requires.0 a.e c.requires.1 c.requires.2 in
     (q.0, omega (arith, q.1), q.2, q.3, q.4, rw (Z_payable a.p.pay (basis a.rows.now a.p.retire a.p.interest)) at (rw c.in-CP.is at c.requires.3))
 
-pub returns-in-AB : goal.returns-in-AB
-returns-in-AB c = record { value = rw c.in-AB.is; filled_columns = (as_they_were c.requires.3).0; columns_kept = (as_they_were c.requires.3).1 }
+pub returns-in-CD-clause-value : goal.returns-in-CD-clause-value
+returns-in-CD-clause-value c = let a = c.args in
+    rw (c.in-CD.is, T_payable a.p.pay (basis a.rows.now a.p.retire a.p.interest)) (working_is _ _ _ c.between.ensures.value)
 
-pub returns-in-BD : goal.returns-in-BD
-returns-in-BD c = record { value = rw c.in-BD.is; filled_columns = (as_they_were c.requires.3).0; columns_kept = (as_they_were c.requires.3).1 }
+pub returns-in-CD-clause-filled_columns : goal.returns-in-CD-clause-filled_columns
+unfolding factor paid_of T
+returns-in-CD-clause-filled_columns c = let a = c.args in
+    rw (c.in-CD.is, T_payable a.p.pay (basis a.rows.now a.p.retire a.p.interest)) c.between.ensures.filled_columns
 
-pub returns-in-BP : goal.returns-in-BP
-returns-in-BP c = record { value = rw c.in-BP.is; filled_columns = (as_they_were c.requires.3).0; columns_kept = (as_they_were c.requires.3).1 }
+pub returns-in-CP-clause-value : goal.returns-in-CP-clause-value
+returns-in-CP-clause-value c = let a = c.args in
+    rw (c.in-CP.is, Z_payable a.p.pay (basis a.rows.now a.p.retire a.p.interest)) (pay_is _ _ _ c.between-in-CP.ensures.value)
 
-pub returns-in-CD : goal.returns-in-CD
-returns-in-CD c = let a = c.args in record { value = rw (c.in-CD.is, T_payable a.p.pay (basis a.rows.now a.p.retire a.p.interest)) c.working_between.ensures.value; filled_columns = rw (c.in-CD.is, T_payable a.p.pay (basis a.rows.now a.p.retire a.p.interest)) c.working_between.ensures.filled_columns; columns_kept = c.working_between.ensures.columns_kept }
-
-pub returns-in-CP : goal.returns-in-CP
-returns-in-CP c = let a = c.args in record { value = rw (c.in-CP.is, Z_payable a.p.pay (basis a.rows.now a.p.retire a.p.interest)) c.pay_between.ensures.value; filled_columns = rw (c.in-CP.is, Z_payable a.p.pay (basis a.rows.now a.p.retire a.p.interest)) c.pay_between.ensures.filled_columns; columns_kept = c.pay_between.ensures.columns_kept }
+pub returns-in-CP-clause-filled_columns : goal.returns-in-CP-clause-filled_columns
+unfolding factor paid_of Z
+returns-in-CP-clause-filled_columns c = let a = c.args in
+    rw (c.in-CP.is, Z_payable a.p.pay (basis a.rows.now a.p.retire a.p.interest)) c.between-in-CP.ensures.filled_columns

@@ -1,8 +1,5 @@
 -- `shared_fill::fill_shared` meets its contract: at first no column is filled.
-use mathlib.Core.Path.{refl}
-use lib.ListN.{replicate}
 use native.Mathlib.Omega.{arith}
-use Rattle.columns.proofs.ColumnLaws.{columns_none}
 use Rattle.rule_order.proofs.Facts.{plan_facts}
 use Rattle.shared_fill.proofs.fill_shared.Goals as goal
 
@@ -11,4 +8,4 @@ deferred_annuity-g-requires c = let f = plan_facts c.args.p c.args.rows c.requir
     (f.table, omega (arith, f.head.interest), omega (arith, f.head.retire.0), omega (arith, f.head.retire.1))
 
 pub fill_from_shared-requires : goal.fill_from_shared-requires
-fill_from_shared-requires c = (c.requires, record { deferred = c.deferred_annuity-g.ensures; filled = columns_none _ (replicate 61 (replicate 106 0)) refl })
+fill_from_shared-requires c = (c.requires, record { deferred = c.deferred_annuity-g.ensures; filled = c.new-columns.ensures _ })

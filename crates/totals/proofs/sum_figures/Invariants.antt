@@ -1,11 +1,7 @@
 -- `totals::sum_figures` meets its contract. The loop's invariant: the sums of the members so far.
-use mathlib.Core.Path.{◌≡◌}
-use Prim.Native.Nat.{◌-◌, ◌≤◌}
+use Rattle.std.proofs.Common.{◌≡◌}
 use Rattle.totals.specs.Sums.{sum_in}
 use Rattle.totals.proofs.sum_figures.Given as goal
 
 abbrev pub invariant-loop-j : goal.invariant-loop-j
-invariant-loop-j l = (l.j ≤ l.count) × (l.value ≡ sum_in (λ f. f.value) l.worked l.j) × (l.cost ≡ sum_in (λ f. f.cost) l.worked l.j) × (l.liability ≡ sum_in (λ f. f.liability) l.worked l.j)
-
-abbrev pub decreases-loop-j : goal.decreases-loop-j
-decreases-loop-j l = l.count - l.j
+invariant-loop-j l = (l.value ≡ sum_in (λ f. f.value) l.worked l.j) × (l.cost ≡ sum_in (λ f. f.cost) l.worked l.j) × (l.liability ≡ sum_in (λ f. f.liability) l.worked l.j)
