@@ -10,9 +10,9 @@ ghost use Rattle.printing.specs.Puts.{PutsAt, Puts};
 ghost use Rattle.report.specs.Lines.{figures_line, plan_lines, refusal_line};
 ghost use Rattle.report.specs.MemberLines.{lines_in, report_lines};
 
-use all_figures::{Worked, figures_at, member_at};
+use all_figures::{Worked, figures_at};
 use costs::Figures;
-use plan::Members;
+use plan::{Member, Members};
 use printed_lines::{write_amounts_line, write_pair_line, write_signed_line};
 use printing::Page;
 use rounding::Signed;
@@ -37,8 +37,9 @@ impl Report<'_> {
         ensures puts { Puts page.old (lines_in self.now.members.now self.now.worked.now self.now.count) page.new }
         ensures upper_bound { page.new.at ≤ page.old.at + 133000 }
     {
+        // By place: of both arrays only the first places are used, and a zip of two slices of them is no shorter.
         for j in 0..self.count as usize {
-            let m = member_at(self.members, j);
+            let m = Member::from(self.members[j]);
             let f = figures_at(self.worked, j);
             write_member_line(page, m.id, f);
         }

@@ -15,7 +15,7 @@ pub loop-j-preserved : goal.loop-j-preserved
 loop-j-preserved c = let l = c.loop-j in
     let w = c.write_member_line.ensures in
     record {
-      puts = line_on _ _ l.j l.invariant.puts (rw (c.member_at-m.ensures, c.figures_at-f.ensures) at w.puts);
+      puts = line_on _ _ l.j l.invariant.puts (rw (c.from-m.ensures, c.figures_at-f.ensures) at w.puts);
       upper_bound = omega (arith, w.upper_bound);
     }
 
