@@ -15,7 +15,6 @@ ghost use Rattle.written.specs.Written.{written};
 
 use lists::{write_amendments, write_members, write_rows};
 use plan::Plan;
-use printing::Page;
 use rates::Rows;
 use term_lines::{write_terms, write_whole_line};
 
@@ -30,8 +29,7 @@ pub fn write_case_lines(
     requires { (length amendments.now ≤ most_amendments) × (length members.now ≤ most_members) }
     ensures { PutsAt out.old 0 (written (plain_case p amendments.now rows.now members.now)) out.new result }
 {
-    let mut page = Page::new(out);
-    write_terms(&mut page, p);
+    let mut page = write_terms(out, p);
     write_amendments(&mut page, amendments);
     write_rows(&mut page, *rows);
     write_members(&mut page, members);

@@ -3,7 +3,7 @@
 
 ghost use Rattle.std.specs.Prelude.{◌≡◌, [], ◌∷◌, ◌++◌, ◌+◌, ◌^◌, ◌≤◌, ◌<◌, length};
 ghost use Rattle.printing.specs.Amounts.{whole_number, amount};
-ghost use Rattle.printing.specs.Puts.{Puts};
+ghost use Rattle.printing.specs.Puts.{PutsAt, Puts};
 ghost use Rattle.written.specs.Written.{word_of, formula_words, method_words, term_lines, closed_lines};
 
 use plan::Plan;
@@ -22,9 +22,9 @@ pub fn write_whole_line(page: &mut Page, key: &[u8], n: u64)
 
 // Writes a line of a key and a word.
 fn write_word_line(page: &mut Page, key: &[u8], word: &[u8])
-    requires { (length key.now ≤ 16) × (length word.now ≤ 6) × (page.old.at + 23 < 2 ^ 64) }
+    requires { page.old.at + length key.now + length word.now + 1 < 2 ^ 64 }
     ensures puts { Puts page.old (closed_lines ((key.now ++ word.now) ∷ [])) page.new }
-    ensures upper_bound { page.new.at ≤ page.old.at + 23 }
+    ensures upper_bound { page.new.at ≤ page.old.at + length key.now + length word.now + 1 }
 {
     page.text(key);
     page.text(word);
@@ -33,9 +33,9 @@ fn write_word_line(page: &mut Page, key: &[u8], word: &[u8])
 
 // Writes a line of a key and an amount.
 fn write_amount_line(page: &mut Page, key: &[u8], cents: u64)
-    requires { (length key.now ≤ 16) × (page.old.at + 40 < 2 ^ 64) }
+    requires { page.old.at + length key.now + 24 < 2 ^ 64 }
     ensures puts { Puts page.old (closed_lines ((key.now ++ amount cents) ∷ [])) page.new }
-    ensures upper_bound { page.new.at ≤ page.old.at + 40 }
+    ensures upper_bound { page.new.at ≤ page.old.at + length key.now + 24 }
 {
     page.text(key);
     page.amount(cents);
@@ -58,7 +58,7 @@ fn formula_word(code: u64) -> &'static [u8]
 // Rule 2.7: a method's word, in the same way.
 fn method_word(code: u64) -> &'static [u8]
     ensures value { result.now ≡ word_of method_words code }
-    ensures upper_bound { length result.now ≤ 6 }
+    ensures upper_bound { length result.now ≤ 2 }
 {
     match code {
         1 => b"AB",
@@ -70,19 +70,21 @@ fn method_word(code: u64) -> &'static [u8]
     }
 }
 
-// Writes the terms.
-pub fn write_terms(page: &mut Page, p: Plan)
-    requires { page.old.at + 308 < 2 ^ 64 }
-    ensures puts { Puts page.old (closed_lines (term_lines p)) page.new }
-    ensures upper_bound { page.new.at ≤ page.old.at + 308 }
+// Begins a page with the terms.
+pub fn write_terms<'a>(out: &'a mut [u8], p: Plan) -> Page<'a>
+    ensures puts { PutsAt out.old 0 (closed_lines (term_lines p)) result.out.now result.at }
+    ensures upper_bound { result.at ≤ 278 }
+    ensures same_buffer { result.out.ghost_name ≡ out.entry.ghost_name }
 {
-    write_whole_line(page, b"interest=", p.interest);
-    write_whole_line(page, b"retire=", p.retire);
-    write_whole_line(page, b"pay=", p.pay);
-    write_word_line(page, b"formula=", formula_word(p.formula));
-    write_whole_line(page, b"unit=", p.unit);
-    write_whole_line(page, b"average=", p.average);
-    write_word_line(page, b"method=", method_word(p.method));
-    write_amount_line(page, b"assets=", p.assets);
-    write_whole_line(page, b"years=", p.years);
+    let mut page = Page::new(out);
+    write_whole_line(&mut page, b"interest=", p.interest);
+    write_whole_line(&mut page, b"retire=", p.retire);
+    write_whole_line(&mut page, b"pay=", p.pay);
+    write_word_line(&mut page, b"formula=", formula_word(p.formula));
+    write_whole_line(&mut page, b"unit=", p.unit);
+    write_whole_line(&mut page, b"average=", p.average);
+    write_word_line(&mut page, b"method=", method_word(p.method));
+    write_amount_line(&mut page, b"assets=", p.assets);
+    write_whole_line(&mut page, b"years=", p.years);
+    page
 }
