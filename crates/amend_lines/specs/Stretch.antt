@@ -1,8 +1,9 @@
 -- Rules 2.11, 2.13 and 12.4, what the loop over the amendments promises: it is the stretch of the walk from the line after the terms on.
-use Rattle.std.specs.Prelude.{ℕ, ◌+◌, ◌≤◌, ◌≡◌, List, [], ◌∷◌, ◌++◌, Bool, true, cond, length, drop, leb, eqb}
+use Rattle.std.specs.Prelude.{ℕ, ◌+◌, ◌≤◌, ◌≡◌, List, [], ◌∷◌, ◌++◌, Bool, true, cond, length, drop, leb, eqb, Result, Ok, Err}
 use Rattle.plan.specs.declared.Plan.{Plan}
 use Rattle.plan.specs.declared.Amendment.{Amendment}
-use Rattle.rules.specs.Refusals.{wrong_amendment}
+use Rattle.rules.specs.declared.refusals.Refused.{Refused}
+use Rattle.rules.specs.Refusals.{wrong_amendment, number}
 use Rattle.rules.specs.Rules.{first_among}
 use Rattle.plan.specs.Numbers.{plan_from}
 use Rattle.amendments.specs.Judging.{most_amendments, field_refusal, amendment_refusal, unit_refusal, amendments_refusal}
@@ -10,8 +11,7 @@ use Rattle.rules.specs.Outcome.{refusal}
 use Rattle.walk.specs.Settled.{settled}
 use Rattle.walk.specs.Step.{headed, amending, table}
 use Rattle.walk.specs.Walk.{walk_from}
-use Rattle.stretches.specs.declared.Stretch.{Stretch}
-use Rattle.stretches.specs.declared.Stretch.TheVariants.{Done, Refused}
+use Rattle.stretches.specs.declared.Next.{Next}
 use Rattle.stretches.specs.Heads.{amended}
 use Rattle.amend_lines.specs.Array.{list_array}
 
@@ -36,7 +36,7 @@ pub record AmendsDone (ranges : Bool) (p : Plan) (first : ℕ) (s : List ℕ) (l
   pub within : at ≤ length s
   pub way : (terms : List ℕ) → p ≡ plan_from terms → walk_from ranges first (amending (headed terms)) s ≡ walk_from ranges line (table (amended terms amends)) (drop at s)
 
-unfoldable pub AmendsAre : (ranges : Bool) → Plan → (first : ℕ) → List ℕ → Stretch → List (List ℕ) → Type 0
-AmendsAre ranges p first s (Done line at) array = AmendsDone ranges p first s line at array
-AmendsAre ranges p first s (Refused number line) array =
-    (terms : List ℕ) → p ≡ plan_from terms → walk_from ranges first (amending (headed terms)) s ≡ refusal number line
+unfoldable pub AmendsAre : (ranges : Bool) → Plan → (first : ℕ) → List ℕ → Result Next Refused → List (List ℕ) → Type 0
+AmendsAre ranges p first s (Ok next) array = AmendsDone ranges p first s next.line next.at array
+AmendsAre ranges p first s (Err refused) array =
+    (terms : List ℕ) → p ≡ plan_from terms → walk_from ranges first (amending (headed terms)) s ≡ refusal (number refused.refusal) refused.line

@@ -7,6 +7,7 @@ use native.Mathlib.Omega.{arith}
 use Rattle.plan.specs.declared.Plan.{Plan}
 use Rattle.plan.specs.declared.Member.{Member}
 use Rattle.rules.specs.Outcome.{Outcome, values, refusal}
+use Rattle.whole_walk.specs.declared.Outline.{Outline}
 use Rattle.walk.specs.Lines.{most_members}
 use Rattle.walk.specs.Walk.{Case, valued_plan}
 use Rattle.amendments.specs.Judging.{most_amendments}
@@ -40,11 +41,15 @@ lists c a =
     let front = list_front c.amends refl few in
     record { room = omega (arith, few, list_size c.amends); list = rw front list; valued = rw front (arrays c a) }
 
+same_outline : {a b : Outline} → values a ≡ values b → a ≡ b
+same_outline e = cc
+
 accepted_of : (o : Outcome Case) {p : Plan} {k n : ℕ} {amendments rows members : List (List ℕ)} (old_amendments old_rows old_members : List (List ℕ)) → ((c : Case) → o ≡ values c → AcceptedCase c) → accepted p k n ≡ accepting o → amendments ≡ amendments_after o old_amendments → rows ≡ rows_after o old_rows → members ≡ members_after o old_members → AcceptedLists p k n amendments rows members
 accepted_of (values c) {p} {k} {n} old_amendments old_rows old_members is answer list table array =
-    let terms : p ≡ c.plan = cc in
-    let many : k ≡ length c.amends = cc in
-    let count : n ≡ length c.members = cc in
+    let same = same_outline answer in
+    let terms : p ≡ c.plan = ap (λ (o : Outline). o.plan) same in
+    let many : k ≡ length c.amends = ap (λ (o : Outline). o.amendments) same in
+    let count : n ≡ length c.members = ap (λ (o : Outline). o.members) same in
     rw (terms, many, count, list, table, array) (lists c (is c refl))
 accepted_of (refusal j l) old_amendments old_rows old_members is answer list table array =
     let z : ◌≡◌ {A = ℕ} 0 1 = cc in absurd (omega arith)

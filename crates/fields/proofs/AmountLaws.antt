@@ -9,32 +9,32 @@ use lib.Dec.{eqb}
 use native.Mathlib.Omega.{arith}
 use borrow.Author.Tests.{eqb-true}
 use Rattle.fields.specs.declared.numbers.Field.{Field}
-use Rattle.fields.specs.declared.numbers.Field.TheVariants.{Is, NotField}
+use Rattle.std.specs.Prelude.{Option, Some, None}
 use Rattle.fields.specs.Split.{seek_of, has_of, upto_of, past_of}
 use Rattle.fields.specs.Numbers.{Number, value, malformed, is_digit, all_digits, in_cents, digits_of, whole_of, amount_of}
 use Rattle.fields.specs.Values.{placed, field_of}
-use Rattle.fields.proofs.SplitLaws.{off, after, here, cut}
+use Rattle.fields.proofs.SplitLaws.{after, here, cut}
 use Rattle.fields.proofs.FieldLaws.{digits_off, lacks_digits}
 use Rattle.fields.proofs.LineLaws.{field_is, field_before, field_not}
 
-either_none : (t : Bool) (e : ℕ) → NotField ≡ cond t (placed malformed e) NotField
+either_none : (t : Bool) (e : ℕ) → None ≡ cond t (placed malformed e) None
 either_none true e = refl
 either_none false e = refl
 
 -- no dollars
-pub amount_none : (i : ℕ) (s : List ℕ) {r : Field} → r ≡ field_of whole_of 46 i s → r ≡ NotField → NotField ≡ field_of amount_of 10 i s
+pub amount_none : (i : ℕ) (s : List ℕ) {r : Option Field} → r ≡ field_of whole_of 46 i s → r ≡ None → None ≡ field_of amount_of 10 i s
 unfolding amount_of field_of
 amount_none i s read is = pick (has_of 46 l) refl
   where
     l : List ℕ
     l = upto_of 10 (drop i s)
 
-    pick : (t : Bool) → has_of 46 l ≡ t → NotField ≡ field_of amount_of 10 i s
+    pick : (t : Bool) → has_of 46 l ≡ t → None ≡ field_of amount_of 10 i s
     pick true h =
         rw (h, field_not 46 (omega arith) (λ e. omega arith) i s read is h)
         (wrong (eqb (length (past_of 46 l)) 2))
       where
-        wrong : (t : Bool) → NotField ≡ cond (has_of 10 (drop i s)) (placed (cond t malformed malformed) (i + seek_of 10 (drop i s))) NotField
+        wrong : (t : Bool) → None ≡ cond (has_of 10 (drop i s)) (placed (cond t malformed malformed) (i + seek_of 10 (drop i s))) None
         wrong true = either_none (has_of 10 (drop i s)) (i + seek_of 10 (drop i s))
         wrong false = either_none (has_of 10 (drop i s)) (i + seek_of 10 (drop i s))
     pick false h = rw h (either_none (has_of 10 (drop i s)) (i + seek_of 10 (drop i s)))
@@ -50,11 +50,24 @@ three i j k n s e f g h end =
 abbrev cents : (d : ℕ) → List ℕ → Number
 cents d u = cond (eqb (length u) 2) (in_cents (value d) (digits_of u)) malformed
 
-module _ (i : ℕ) (s : List ℕ) {r : Field} {d p : ℕ} (read : r ≡ field_of whole_of 46 i s) (is : r ≡ Is d p) where
+-- `t` is what the code looks at, from the point on
+module _ (i : ℕ) (s : List ℕ) {r : Option Field} {dollars : Field} (read : r ≡ field_of whole_of 46 i s) (is : r ≡ Some dollars) {t : List ℕ} (part : t ≡ drop dollars.end s) where
+  abbrev p : ℕ
+  p = dollars.end
+
+  abbrev d : ℕ
+  d = dollars.value
+
   abbrev w : List ℕ
   w = drop (p + 1) s
 
-  after_point : field_of amount_of 10 i s ≡ cond (has_of 10 w) (placed (cents d (upto_of 10 w)) (p + 1 + seek_of 10 w)) NotField
+  at : (k : ℕ) → get_or t k 0 ≡ get_or s (p + k) 0
+  at k = ap (λ (u : List ℕ). get_or u k 0) part ∙ get_or-drop p s k 0
+
+  size_t : length t ≡ length s - p
+  size_t = ap length part ∙ length-drop p s
+
+  after_point : field_of amount_of 10 i s ≡ cond (has_of 10 w) (placed (cents d (upto_of 10 w)) (p + 1 + seek_of 10 w)) None
   unfolding amount_of field_of
   after_point =
       let f = field_is whole_of 46 i s read is in
@@ -86,43 +99,44 @@ module _ (i : ℕ) (s : List ℕ) {r : Field} {d p : ℕ} (read : r ≡ field_of
           record { text = rw (first, second) e; end = ap (λ (v : List ℕ). get_or v 2 0) parts; size = omega arith }
 
   -- no two digits and byte 10 after the point
-  wrong : (Two → all_digits (upto_of 10 w) ≡ false) → NotField ≡ field_of amount_of 10 i s
+  wrong : (Two → all_digits (upto_of 10 w) ≡ false) → None ≡ field_of amount_of 10 i s
   unfolding digits_of
   wrong bad = after_point_is (has_of 10 w) refl (eqb (length (upto_of 10 w)) 2) refl
     where
-      after_point_is : (h : Bool) → has_of 10 w ≡ h → (t : Bool) → eqb (length (upto_of 10 w)) 2 ≡ t → NotField ≡ field_of amount_of 10 i s
+      after_point_is : (h : Bool) → has_of 10 w ≡ h → (t : Bool) → eqb (length (upto_of 10 w)) 2 ≡ t → None ≡ field_of amount_of 10 i s
       after_point_is false h t e = sym (after_point ∙ rw h)
       after_point_is true h false e = sym (after_point ∙ rw (h, e))
       after_point_is true h true e = sym (after_point ∙ rw (h, e, bad (two h (eqb-true _ _ e))))
 
-  pub amount_short : length s - p < 4 → NotField ≡ field_of amount_of 10 i s
-  amount_short h = wrong (λ t. absurd (omega (arith, t.size, length-drop (p + 1) s)))
+  pub amount_short : length t < 4 → None ≡ field_of amount_of 10 i s
+  amount_short h = wrong (λ u. absurd (omega (arith, u.size, size_t, length-drop (p + 1) s)))
 
-  pub amount_end : (get_or s (p + 3) 0 ≡ 10 → ⊥) → NotField ≡ field_of amount_of 10 i s
+  pub amount_end : (get_or t 3 0 ≡ 10 → ⊥) → None ≡ field_of amount_of 10 i s
   amount_end h =
       let place : p + 1 + 2 ≡ p + 3 = omega arith in
-      wrong (λ t. absurd (h (sym (byte 2 ∙ ap (λ (k : ℕ). get_or s k 0) place) ∙ t.end)))
+      wrong (λ u. absurd (h (at 3 ∙ sym (byte 2 ∙ ap (λ (k : ℕ). get_or s k 0) place) ∙ u.end)))
 
-  pub first_off : is_digit (get_or s (p + 1) 0) ≡ false → NotField ≡ field_of amount_of 10 i s
+  pub first_off : is_digit (get_or t 1 0) ≡ false → None ≡ field_of amount_of 10 i s
   first_off e =
       let place : p + 1 + 0 ≡ p + 1 = omega arith in
-      let off : is_digit (get_or w 0 0) ≡ false = ap is_digit (byte 0 ∙ ap (λ (k : ℕ). get_or s k 0) place) ∙ e in
-      wrong (λ t. rw t.text (digits_off [] (get_or w 0 0) (get_or w 1 0 ∷ []) off))
+      let off : is_digit (get_or w 0 0) ≡ false = ap is_digit (byte 0 ∙ ap (λ (k : ℕ). get_or s k 0) place ∙ sym (at 1)) ∙ e in
+      wrong (λ u. rw u.text (digits_off [] (get_or w 0 0) (get_or w 1 0 ∷ []) off))
 
-  pub second_off : is_digit (get_or s (p + 2) 0) ≡ false → NotField ≡ field_of amount_of 10 i s
+  pub second_off : is_digit (get_or t 2 0) ≡ false → None ≡ field_of amount_of 10 i s
   second_off e =
       let place : p + 1 + 1 ≡ p + 2 = omega arith in
-      let off : is_digit (get_or w 1 0) ≡ false = ap is_digit (byte 1 ∙ ap (λ (k : ℕ). get_or s k 0) place) ∙ e in
-      wrong (λ t. rw t.text (digits_off (get_or w 0 0 ∷ []) (get_or w 1 0) [] off))
+      let off : is_digit (get_or w 1 0) ≡ false = ap is_digit (byte 1 ∙ ap (λ (k : ℕ). get_or s k 0) place ∙ sym (at 2)) ∙ e in
+      wrong (λ u. rw u.text (digits_off (get_or w 0 0 ∷ []) (get_or w 1 0) [] off))
 
   -- two digits and byte 10 after the point
-  pub amount_good : 4 ≤ length s - p → is_digit (get_or s (p + 1) 0) ≡ true → is_digit (get_or s (p + 2) 0) ≡ true → get_or s (p + 3) 0 ≡ 10 → Is (d * 100 + (get_or s (p + 1) 0 - 48) * 10 + (get_or s (p + 2) 0 - 48)) (p + 3) ≡ field_of amount_of 10 i s
+  pub amount_good : 4 ≤ length t → is_digit (get_or t 1 0) ≡ true → is_digit (get_or t 2 0) ≡ true → get_or t 3 0 ≡ 10 → Some (record { value = d * 100 + (get_or t 1 0 - 48) * 10 + (get_or t 2 0 - 48); end = p + 3 }) ≡ field_of amount_of 10 i s
   unfolding digits_of
   amount_good room first second end =
-      let a = get_or s (p + 1) 0 in
-      let b = get_or s (p + 2) 0 in
+      let a = get_or t 1 0 in
+      let b = get_or t 2 0 in
       let text : all_digits (a ∷ b ∷ []) ≡ true = simp (first, second) in
-      let parts : w ≡ a ∷ b ∷ 10 ∷ drop (p + 4) s = three (p + 1) (p + 2) (p + 3) (p + 4) s (omega arith) (omega arith) (omega arith) (omega arith) end in
+      let bytes : w ≡ get_or s (p + 1) 0 ∷ get_or s (p + 2) 0 ∷ 10 ∷ drop (p + 4) s = three (p + 1) (p + 2) (p + 3) (p + 4) s (omega arith) (omega arith) (omega arith) (omega (arith, size_t)) (sym (at 3) ∙ end) in
+      let parts : w ≡ a ∷ b ∷ 10 ∷ drop (p + 4) s = rw (at 1, at 2) bytes in
       let f = after 10 (a ∷ b ∷ []) (10 ∷ drop (p + 4) s) (lacks_digits 10 (a ∷ b ∷ []) (omega arith) text) in
       let g = here 10 (drop (p + 4) s) in
       let has : has_of 10 w ≡ true = ap (has_of 10) parts ∙ f.has ∙ g.has in

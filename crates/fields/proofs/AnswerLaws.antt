@@ -3,15 +3,15 @@ use Prim.Native.Nat.{ℕ, ◌+◌, ◌<◌}
 use mathlib.Core.Path.{◌≡◌, refl, sym, ap, ◌∙◌}
 use mathlib.Core.List.{List}
 use mathlib.Core.Bool.{Bool, true, false, cond}
+use Rattle.std.specs.Prelude.{Result, Ok, Err}
 use lib.ListN.{length, drop}
-use native.Mathlib.Omega.{arith}
 use borrow.Author.Tests.{ltb-true}
-use Rattle.fields.specs.declared.Line.{Line}
-use Rattle.fields.specs.declared.Line.TheVariants.{Good, Wrong, Cut}
+use Rattle.fields.specs.declared.Fault.{Fault}
+use Rattle.fields.specs.declared.Fault.TheVariants.{Wrong, Cut}
 use Rattle.fields.specs.Split.{seek_of, has_of, upto_of, past_of}
 use Rattle.fields.specs.Values.{Values, found, misread, formed, line_of}
 
--- a line of the right form, and the place of its byte 10
+-- a line that there is, and the place of its byte 10
 pub record GoodLine (s : List ℕ) (e : ℕ) : Type 0 where
   pub has : has_of 10 s ≡ true
   pub place : e ≡ seek_of 10 s
@@ -28,56 +28,58 @@ good_line s has place =
       rest = ap (λ (k : ℕ). drop (k + 1) s) place;
     }
 
-module _ (holds : List ℕ → Values) (s : List ℕ) {r : Line} (answered : r ≡ line_of holds s) where
-  pub is_cut : r ≡ Cut → has_of 10 s ≡ false
+-- a line of the right form, with its values
+pub record ReadLine (holds : List ℕ → Values) (s vs : List ℕ) (e : ℕ) : Type 0 where
+  pub line : GoodLine s e
+  pub is : holds (upto_of 10 s) ≡ found vs
+
+module _ (holds : List ℕ → Values) (s : List ℕ) {r : Result (List ℕ × ℕ) Fault} (answered : r ≡ line_of holds s) where
+  pub is_cut : r ≡ Err Cut → has_of 10 s ≡ false
   unfolding line_of
   is_cut is = pick (has_of 10 s) (holds (upto_of 10 s)) (sym is ∙ answered)
     where
-      pick : (h : Bool) (x : Values) → Cut ≡ cond h (formed x (seek_of 10 s)) Cut → h ≡ false
-      pick true (found vs) e = let z : ◌≡◌ {A = ℕ} 0 1 = cc in absurd (omega arith)
-      pick true misread e = let z : ◌≡◌ {A = ℕ} 0 1 = cc in absurd (omega arith)
+      pick : (h : Bool) (x : Values) → Err Cut ≡ cond h (formed x (seek_of 10 s)) (Err Cut) → h ≡ false
+      pick true (found vs) e = cc
+      pick true misread e = cc
       pick false x e = refl
 
-  pub is_wrong : r ≡ Wrong → (has_of 10 s ≡ true) × (holds (upto_of 10 s) ≡ misread)
+  pub is_wrong : r ≡ Err Wrong → (has_of 10 s ≡ true) × (holds (upto_of 10 s) ≡ misread)
   unfolding line_of
   is_wrong is = pick (has_of 10 s) (holds (upto_of 10 s)) (sym is ∙ answered)
     where
-      pick : (h : Bool) (x : Values) → Wrong ≡ cond h (formed x (seek_of 10 s)) Cut → (h ≡ true) × (x ≡ misread)
-      pick true (found vs) e = let z : ◌≡◌ {A = ℕ} 0 1 = cc in absurd (omega arith)
+      pick : (h : Bool) (x : Values) → Err Wrong ≡ cond h (formed x (seek_of 10 s)) (Err Cut) → (h ≡ true) × (x ≡ misread)
+      pick true (found vs) e = absurd (cc)
       pick true misread e = (refl, refl)
-      pick false x e = let z : ◌≡◌ {A = ℕ} 0 1 = cc in absurd (omega arith)
+      pick false x e = absurd (cc)
 
-  pub is_good : {e : ℕ} → r ≡ Good e → GoodLine s e
+  pub is_good : {a : List ℕ × ℕ} → r ≡ Ok a → ReadLine holds s a.0 a.1
   unfolding line_of
-  is_good {e} is = let p = pick (has_of 10 s) (holds (upto_of 10 s)) (sym is ∙ answered) in good_line s p.0 p.1
+  is_good {a} is =
+      let p = pick (has_of 10 s) (holds (upto_of 10 s)) (sym is ∙ answered) in record { line = good_line s p.0 p.1; is = p.2 }
     where
-      pick : (h : Bool) (x : Values) → Good e ≡ cond h (formed x (seek_of 10 s)) Cut → (h ≡ true) × (e ≡ seek_of 10 s)
-      pick true (found vs) is = (refl, (cc))
-      pick true misread is = let z : ◌≡◌ {A = ℕ} 0 1 = cc in absurd (omega arith)
-      pick false x is = let z : ◌≡◌ {A = ℕ} 0 1 = cc in absurd (omega arith)
+      pick : (h : Bool) (x : Values) → Ok a ≡ cond h (formed x (seek_of 10 s)) (Err Cut) → (h ≡ true) × (a.1 ≡ seek_of 10 s) × (x ≡ found a.0)
+      pick true (found vs) e = let same : a ≡ (vs, seek_of 10 s) = cc in (refl, ap (λ (b : List ℕ × ℕ). b.1) same, ap (λ (b : List ℕ × ℕ). found b.0) (sym same))
+      pick true misread e = absurd (cc)
+      pick false x e = absurd (cc)
 
 -- ---- and what makes an answer
--- the line's answer, with what is known of its values
-abbrev pub Answers : (holds : List ℕ → Values) → List ℕ → Line → Type 0 → Type 0
-Answers holds s r known = (r ≡ line_of holds s) × ((e : ℕ) → r ≡ Good e → known)
-
-module _ (holds : List ℕ → Values) (s : List ℕ) (known : Type 0) where
-  pub answers_good : {e : ℕ} {vs : List ℕ} → GoodLine s e → holds (upto_of 10 s) ≡ found vs → known → Answers holds s (Good e) known
+module _ (holds : List ℕ → Values) (s : List ℕ) where
+  pub answers_good : {vs : List ℕ} {e : ℕ} → has_of 10 s ≡ true → e ≡ seek_of 10 s → holds (upto_of 10 s) ≡ found vs → Ok (vs, e) ≡ line_of holds s
   unfolding line_of
-  answers_good g is h = (rw (g.has, is, ← g.place), λ e same. h)
+  answers_good has place is = rw (has, is, ← place)
 
-  pub answers_wrong : has_of 10 s ≡ true → holds (upto_of 10 s) ≡ misread → Answers holds s Wrong known
+  pub answers_wrong : has_of 10 s ≡ true → holds (upto_of 10 s) ≡ misread → Err Wrong ≡ line_of holds s
   unfolding line_of
-  answers_wrong has is = (rw (has, is), λ e same. let z : ◌≡◌ {A = ℕ} 0 1 = cc in absurd (omega arith))
+  answers_wrong has is = rw (has, is)
 
-  pub answers_cut : has_of 10 s ≡ false → Answers holds s Cut known
+  pub answers_cut : has_of 10 s ≡ false → Err Cut ≡ line_of holds s
   unfolding line_of
-  answers_cut none = (rw none, λ e same. let z : ◌≡◌ {A = ℕ} 0 1 = cc in absurd (omega arith))
+  answers_cut none = rw none
 
   -- a line that was not read: if it is whole its form is wrong
-  pub answers_unread : {r : Line} → (has_of 10 s ≡ true → holds (upto_of 10 s) ≡ misread) → r ≡ cond (has_of 10 s) Wrong Cut → Answers holds s r known
-  answers_unread {r} bad unread = pick (has_of 10 s) refl unread
+  pub answers_unread : {f : Fault} → (has_of 10 s ≡ true → holds (upto_of 10 s) ≡ misread) → f ≡ cond (has_of 10 s) Wrong Cut → Err f ≡ line_of holds s
+  answers_unread {f} bad unread = pick (has_of 10 s) refl unread
     where
-      pick : (h : Bool) → has_of 10 s ≡ h → r ≡ cond h Wrong Cut → Answers holds s r known
+      pick : (h : Bool) → has_of 10 s ≡ h → f ≡ cond h Wrong Cut → Err f ≡ line_of holds s
       pick true has e = rw e (answers_wrong has (bad has))
       pick false has e = rw e (answers_cut has)

@@ -11,7 +11,7 @@ use native.Mathlib.Omega.{arith}
 use native.Mathlib.Numerals.{add-one}
 use native.Mathlib.Nat.{add-zero, eq-or-lt_of_le, pow-succ', pow-le-pow_right, mul_assoc, mul-le-mul_right, lt_of_lt_of_le}
 use borrow.Author.Tests.{eq-eqb, ne_eqb, le-leb, lt-leb, leb-true, lt-ltb, le-ltb}
-use Rattle.fields.specs.declared.numbers.Field.TheVariants.{Is, NotField}
+use Rattle.std.specs.Prelude.{Some, None}
 use Rattle.fields.specs.Split.{seek_of, has_of, upto_of}
 use Rattle.fields.specs.Numbers.{Number, value, malformed, is_digit, all_digits, number, digits_of, whole_form, whole_of}
 use Rattle.fields.specs.Values.{placed, field_of}
@@ -90,7 +90,7 @@ run_next {s} {i} {j} {n} r h digit room =
     }
 
 -- ---- where the digits stop
-either_none : (t : Bool) (e : ℕ) → cond t (placed malformed e) NotField ≡ NotField
+either_none : (t : Bool) (e : ℕ) → cond t (placed malformed e) None ≡ None
 either_none true e = refl
 either_none false e = refl
 
@@ -99,7 +99,7 @@ module _ (form : List ℕ → Number) (b : ℕ) (no_digit : b < 48) {s : List �
   rest = after b r.text (drop j s) (lacks_digits b r.text no_digit r.all)
 
   -- at the end of the bytes
-  pub stop_end : length s ≤ j → NotField ≡ field_of form b i s
+  pub stop_end : length s ≤ j → None ≡ field_of form b i s
   unfolding field_of
   stop_end h =
       let none : has_of b (drop j s) ≡ false = rw (drop_of_length-le s {i = j} h) (has_lacks b [] refl) in
@@ -123,7 +123,7 @@ module _ (form : List ℕ → Number) (b : ℕ) (no_digit : b < 48) {s : List �
         rw (split, has, upto, place)
 
     -- at another byte: the text goes on
-    stop_other : (get_or s j 0 ≡ b → ⊥) → ((u : List ℕ) → form (r.text ++ get_or s j 0 ∷ u) ≡ malformed) → NotField ≡ field_of form b i s
+    stop_other : (get_or s j 0 ≡ b → ⊥) → ((u : List ℕ) → form (r.text ++ get_or s j 0 ∷ u) ≡ malformed) → None ≡ field_of form b i s
     unfolding field_of
     stop_other not_b wrong =
         let c = get_or s j 0 in
@@ -182,10 +182,10 @@ module _ {s : List ℕ} {i j n : ℕ} (r : Run s i j n) where
 
 -- ---- what the reader answers, byte by byte
 module _ (b : ℕ) (no_digit : b < 48) {s : List ℕ} {i j n : ℕ} (r : Run s i j n) (within : j < length s) where
-  pub field_other : is_digit (get_or s j 0) ≡ false → (get_or s j 0 ≡ b → ⊥) → NotField ≡ field_of whole_of b i s
+  pub field_other : is_digit (get_or s j 0) ≡ false → (get_or s j 0 ≡ b → ⊥) → None ≡ field_of whole_of b i s
   field_other off not_b = stop_other whole_of b no_digit r within not_b (whole_off r.text (get_or s j 0) off)
 
-  pub field_long : is_digit (get_or s j 0) ≡ true → i + 12 ≤ j → NotField ≡ field_of whole_of b i s
+  pub field_long : is_digit (get_or s j 0) ≡ true → i + 12 ≤ j → None ≡ field_of whole_of b i s
   field_long digit many =
       stop_other whole_of b no_digit r within (λ is. let low = digit_low (get_or s j 0) digit in omega arith) (whole_long r.text (get_or s j 0) (omega (arith, r.long)))
 
@@ -193,14 +193,14 @@ module _ (b : ℕ) (no_digit : b < 48) {s : List ℕ} {i j n : ℕ} (r : Run s i
     stops : {x : Number} → whole_of r.text ≡ x → placed x j ≡ field_of whole_of b i s
     stops e = sym (stop_here whole_of b no_digit r within is ∙ ap (λ (y : Number). placed y j) e)
 
-    pub field_empty : j ≡ i → NotField ≡ field_of whole_of b i s
+    pub field_empty : j ≡ i → None ≡ field_of whole_of b i s
     field_empty none = stops (whole_none r.text (omega (arith, r.long)))
 
-    pub field_zero : i + 1 < j → get_or s i 0 ≡ 48 → NotField ≡ field_of whole_of b i s
+    pub field_zero : i + 1 < j → get_or s i 0 ≡ 48 → None ≡ field_of whole_of b i s
     field_zero many lead = stops (whole_zero r many lead)
 
-    pub field_many : i + 1 < j → (get_or s i 0 ≡ 48 → ⊥) → Is n j ≡ field_of whole_of b i s
+    pub field_many : i + 1 < j → (get_or s i 0 ≡ 48 → ⊥) → Some (record { value = n; end = j }) ≡ field_of whole_of b i s
     field_many many lead = stops (whole_many r (omega arith) lead)
 
-    pub field_one : (j ≡ i → ⊥) → j ≤ i + 1 → Is n j ≡ field_of whole_of b i s
+    pub field_one : (j ≡ i → ⊥) → j ≤ i + 1 → Some (record { value = n; end = j }) ≡ field_of whole_of b i s
     field_one some one = stops (whole_one r (⊎_elim (λ e. absurd (some (sym e))) (λ l. l) (eq-or-lt_of_le (omega (arith, r.long)))) one)

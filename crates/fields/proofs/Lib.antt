@@ -1,5 +1,6 @@
 -- The laws of fields, from single bytes up to a line; Examples is what a reader looks for.
 pub mod SplitLaws
+pub mod StdWords
 pub mod FieldLaws
 pub mod LineLaws
 pub mod AmountLaws

@@ -9,7 +9,7 @@ use lib.Dec.{leb, ltb, eqb}
 use native.Mathlib.Omega.{arith}
 use borrow.Author.Tests.{ne_eqb, ltb-true, ltb-false, leb-true}
 use Rattle.fields.specs.declared.numbers.Field.{Field}
-use Rattle.fields.specs.declared.numbers.Field.TheVariants.{Is, NotField}
+use Rattle.std.specs.Prelude.{Option, Some, None}
 use Rattle.fields.specs.Split.{seek_of, has_of, upto_of, past_of}
 use Rattle.fields.specs.Numbers.{Number, value, malformed, all_digits, number, digits_of, whole_form, whole_of}
 use Rattle.fields.specs.Values.{placed, field_of}
@@ -95,31 +95,31 @@ whole_is t v e = pick (whole_form t) refl (all_digits t) refl e
     pick true form false is e = let z : ◌≡◌ {A = ℕ} 0 1 = cc in absurd (omega arith)
     pick false form d is e = let z : ◌≡◌ {A = ℕ} 0 1 = cc in absurd (omega arith)
 
-placed_is : (t : Bool) (x : Number) (p : ℕ) {v e : ℕ} → Is v e ≡ cond t (placed x p) NotField → (t ≡ true) × (x ≡ value v) × (e ≡ p)
+placed_is : (t : Bool) (x : Number) (p : ℕ) {f : Field} → Some f ≡ cond t (placed x p) None → (t ≡ true) × (x ≡ value f.value) × (f.end ≡ p)
 placed_is true (value u) p is = (refl, (cc), (cc))
-placed_is true malformed p is = let z : ◌≡◌ {A = ℕ} 0 1 = cc in absurd (omega arith)
-placed_is false x p is = let z : ◌≡◌ {A = ℕ} 0 1 = cc in absurd (omega arith)
+placed_is true malformed p is = cc
+placed_is false x p is = cc
 
-pub placed_not : (t : Bool) (x : Number) (p : ℕ) → NotField ≡ cond t (placed x p) NotField → t ≡ true → x ≡ malformed
-placed_not true (value u) p is on = let z : ◌≡◌ {A = ℕ} 0 1 = cc in absurd (omega arith)
+pub placed_not : (t : Bool) (x : Number) (p : ℕ) → None ≡ cond t (placed x p) None → t ≡ true → x ≡ malformed
+placed_not true (value u) p is on = cc
 placed_not true malformed p is on = refl
 placed_not false x p is on = off (sym on)
 
 -- the value of a field, at any byte that ends it
-pub record FieldIs (form : List ℕ → Number) (b i v e : ℕ) (s : List ℕ) : Type 0 where
+pub record FieldIs (form : List ℕ → Number) (b i : ℕ) (f : Field) (s : List ℕ) : Type 0 where
   pub has : has_of b (drop i s) ≡ true
-  pub is : form (upto_of b (drop i s)) ≡ value v
-  pub place : e ≡ i + seek_of b (drop i s)
-  pub within : e < length s
-  pub rest : drop (e + 1) s ≡ past_of b (drop i s)
+  pub is : form (upto_of b (drop i s)) ≡ value f.value
+  pub place : f.end ≡ i + seek_of b (drop i s)
+  pub within : f.end < length s
+  pub rest : drop (f.end + 1) s ≡ past_of b (drop i s)
 
-pub field_is : (form : List ℕ → Number) (b i : ℕ) (s : List ℕ) {r : Field} {v e : ℕ} → r ≡ field_of form b i s → r ≡ Is v e → FieldIs form b i v e s
+pub field_is : (form : List ℕ → Number) (b i : ℕ) (s : List ℕ) {r : Option Field} {f : Field} → r ≡ field_of form b i s → r ≡ Some f → FieldIs form b i f s
 unfolding has_of past_of field_of
-field_is form b i s {r} {v} {e} read is =
+field_is form b i s {r} {f} read is =
     let t = drop i s in
     let p = placed_is (has_of b t) (form (upto_of b t)) (i + seek_of b t) (sym is ∙ read) in
     let low = ltb-true (seek_of b t) (length t) p.0 in
-    let next : i + (seek_of b t + 1) ≡ e + 1 = omega (arith, p.2) in
+    let next : i + (seek_of b t + 1) ≡ f.end + 1 = omega (arith, p.2) in
     record {
       has = p.0;
       is = p.1;
@@ -128,18 +128,18 @@ field_is form b i s {r} {v} {e} read is =
       rest = sym (drop-drop (seek_of b t + 1) i s ∙ ap (λ (k : ℕ). drop k s) next);
     }
 
-module _ (b : ℕ) (no_digit : b < 48) (other : b ≡ 10 → ⊥) (i : ℕ) (s : List ℕ) {r : Field} (read : r ≡ field_of whole_of b i s) where
-  pub field_before : {v e : ℕ} → r ≡ Is v e → Before10 b (drop i s)
-  field_before {v} is =
-      let f = field_is whole_of b i s read is in
-      before_10 b other (drop i s) f.has (lacks_digits 10 (upto_of b (drop i s)) (omega arith) (whole_is (upto_of b (drop i s)) v f.is).all)
+module _ (b : ℕ) (no_digit : b < 48) (other : b ≡ 10 → ⊥) (i : ℕ) (s : List ℕ) {r : Option Field} (read : r ≡ field_of whole_of b i s) where
+  pub field_before : {f : Field} → r ≡ Some f → Before10 b (drop i s)
+  field_before {f} is =
+      let g = field_is whole_of b i s read is in
+      before_10 b other (drop i s) g.has (lacks_digits 10 (upto_of b (drop i s)) (omega arith) (whole_is (upto_of b (drop i s)) f.value g.is).all)
 
-  pub field_small : {v e : ℕ} → r ≡ Is v e → v < 1000000000000
-  field_small {v} is =
-      let w = whole_is (upto_of b (drop i s)) v (field_is whole_of b i s read is).is in
+  pub field_small : {f : Field} → r ≡ Some f → f.value < 1000000000000
+  field_small {f} is =
+      let w = whole_is (upto_of b (drop i s)) f.value (field_is whole_of b i s read is).is in
       digits_small (upto_of b (drop i s)) w.all w.few w.writes
 
-  pub field_not : r ≡ NotField → has_of b (upto_of 10 (drop i s)) ≡ true → whole_of (upto_of b (upto_of 10 (drop i s))) ≡ malformed
+  pub field_not : r ≡ None → has_of b (upto_of 10 (drop i s)) ≡ true → whole_of (upto_of b (upto_of 10 (drop i s))) ≡ malformed
   unfolding field_of
   field_not is h =
       let t = drop i s in

@@ -1,40 +1,15 @@
 -- Where a byte first stands, and what stands before and after it.
-use Prim.Native.Nat.{ℕ, suc, ◌+◌, ◌-◌, ◌≤◌, ◌<◌}
+use Prim.Native.Nat.{ℕ, suc, ◌+◌, ◌-◌}
 use mathlib.Core.Path.{◌≡◌, refl, sym, ap, ◌∙◌}
 use mathlib.Core.List.{List, [], ◌∷◌, ◌++◌}
-use mathlib.Core.Bool.{Bool, true, false, cond, not, ◌&&◌}
-use lib.ListN.{length, get_or, take, drop, drop_of_length-le, length-drop}
-use lib.Seq.{drop-cons, take_all}
+use mathlib.Core.Bool.{Bool, true, false, not, ◌&&◌}
+use lib.ListN.{length, take, drop, length-drop}
+use lib.Seq.{take_all}
 use lib.Dec.{eqb, leb-suc-suc}
 use native.Mathlib.Omega.{arith}
 use native.Mathlib.Numerals.{add-one}
-use borrow.Author.Tests.{eq-eqb, ne_eqb, eqb-true, lt-ltb, le-ltb, not-true}
-use Rattle.fields.specs.declared.Line.TheVariants.{Wrong, Cut as Off}
-use Rattle.fields.specs.Split.{seek_of, has_of, upto_of, past_of, starts_of}
-
-module _ (b : ℕ) (s : List ℕ) (i : ℕ) where
-  pub seek_end : length s ≤ i → seek_of b (drop i s) ≡ 0
-  seek_end h = rw drop_of_length-le
-
-  pub seek_here : i < length s → get_or s i 0 ≡ b → seek_of b (drop i s) ≡ 0
-  seek_here h e = rw (drop-cons s i 0) (simp (eq-eqb _ _ e))
-
-  pub seek_on : i < length s → (get_or s i 0 ≡ b → ⊥) → seek_of b (drop i s) ≡ suc (seek_of b (drop (i + 1) s))
-  seek_on h e = rw (add-one, drop-cons s i 0) (simp (ne_eqb _ _ e))
-
--- a key that s begins with
-module _ (key s : List ℕ) (i : ℕ) where
-  pub starts_end : length key ≤ i → starts_of (drop i key) (drop i s) ≡ true
-  starts_end h = rw (drop_of_length-le key)
-
-  pub starts_short : i < length key → length s ≤ i → starts_of (drop i key) (drop i s) ≡ false
-  starts_short h k = rw (drop-cons key i 0, drop_of_length-le s)
-
-  pub starts_off : i < length key → i < length s → (get_or s i 0 ≡ get_or key i 0 → ⊥) → starts_of (drop i key) (drop i s) ≡ false
-  starts_off h k e = rw (drop-cons key i 0, drop-cons s i 0) (simp (ne_eqb _ _ e))
-
-  pub starts_on : i < length key → i < length s → get_or s i 0 ≡ get_or key i 0 → starts_of (drop i key) (drop i s) ≡ starts_of (drop (i + 1) key) (drop (i + 1) s)
-  starts_on h k e = rw (add-one, drop-cons key i 0, drop-cons s i 0) (simp (eq-eqb _ _ e))
+use borrow.Author.Tests.{eq-eqb, eqb-true, lt-ltb, not-true}
+use Rattle.fields.specs.Split.{seek_of, has_of, upto_of, past_of}
 
 -- ---- tests that were passed
 pub and_true_left : (a b : Bool) → a && b ≡ true → a ≡ true
@@ -128,22 +103,6 @@ cut b (x ∷ s) e = pick (eqb x b) refl (cut b s)
     pick false is on =
         let c = on (simp (is, leb-suc-suc) at e) in
         record { is = simp (is, add-one) (ap (λ (r : List ℕ). x ∷ r) (simp add-one at c.is)); free = simp is c.free }
-
--- whether byte 10 was found
-module _ (s : List ℕ) {e : ℕ} (at : e ≡ seek_of 10 s) where
-  pub has_none : length s ≤ e → has_of 10 s ≡ false
-  unfolding has_of
-  has_none h = rw (← at) (le-ltb e (length s) h)
-
-  pub has_line : e < length s → has_of 10 s ≡ true
-  unfolding has_of
-  has_line h = rw (← at) (lt-ltb e (length s) h)
-
-  pub cut_off : length s ≤ e → Off ≡ cond (has_of 10 s) Wrong Off
-  cut_off h = rw (has_none h)
-
-  pub not_cut : e < length s → Wrong ≡ cond (has_of 10 s) Wrong Off
-  not_cut h = rw (has_line h)
 
 -- a part that runs to the end
 pub rest_part : (s : List ℕ) (i : ℕ) → take (length s - i) (drop i s) ≡ drop i s

@@ -1,9 +1,8 @@
 -- A line of values: a key, whole numbers with a comma after each, and a last value up to the line's end (rules 2.1, 3.1, 4.1 and 4.6).
-use Rattle.std.specs.Prelude.{ℕ, zero, suc, ◌+◌, ◌≡◌, List, [], ◌∷◌, Bool, cond, length, take, drop}
+use Rattle.std.specs.Prelude.{ℕ, zero, suc, ◌+◌, List, [], ◌∷◌, Bool, cond, length, drop, Option, Some, None, Result, Ok, Err}
 use Rattle.fields.specs.declared.numbers.Field.{Field}
-use Rattle.fields.specs.declared.numbers.Field.TheVariants.{Is, NotField}
-use Rattle.fields.specs.declared.Line.{Line}
-use Rattle.fields.specs.declared.Line.TheVariants.{Good, Wrong, Cut}
+use Rattle.fields.specs.declared.Fault.{Fault}
+use Rattle.fields.specs.declared.Fault.TheVariants.{Wrong, Cut}
 use Rattle.fields.specs.Split.{seek_of, has_of, upto_of, past_of, starts_of}
 use Rattle.fields.specs.Numbers.{Number, value, malformed, whole_of, amount_of}
 
@@ -32,23 +31,26 @@ abbrev pub last_of : (amount : Bool) → List ℕ → Number
 last_of amount s = cond amount (amount_of s) (whole_of s)
 
 -- ---- what the code answers
--- the values of a line stand at the front of an array of five
-pub record Held (x : Values) (n : ℕ) (values : List ℕ) : Type 0 where
-  pub is : x ≡ found (take (n + 1) values)
-  pub size : length values ≡ 5
-
 -- the number from place i up to the first byte b, and the place of that byte
-abbrev pub placed : Number → ℕ → Field
-placed (value v) e = Is v e
-placed malformed e = NotField
+abbrev pub placed : Number → ℕ → Option Field
+placed (value v) e = Some (record { value = v; end = e })
+placed malformed e = None
 
-unfoldable pub field_of : (form : List ℕ → Number) → (b i : ℕ) → List ℕ → Field
-field_of form b i s = cond (has_of b (drop i s)) (placed (form (upto_of b (drop i s))) (i + seek_of b (drop i s))) NotField
+unfoldable pub field_of : (form : List ℕ → Number) → (b i : ℕ) → List ℕ → Option Field
+field_of form b i s = cond (has_of b (drop i s)) (placed (form (upto_of b (drop i s))) (i + seek_of b (drop i s))) None
 
--- the line that s begins with: whether its form is right, and the place of its byte 10; or it is cut off before one (rule 1.2)
-abbrev pub formed : Values → ℕ → Line
-formed (found vs) e = Good e
-formed misread e = Wrong
+-- the values from place i up to the first byte 10, and the place of that byte
+abbrev pub ended : Values → ℕ → Option (List ℕ × ℕ)
+ended (found vs) e = Some (vs, e)
+ended misread e = None
 
-unfoldable pub line_of : (holds : List ℕ → Values) → List ℕ → Line
-line_of holds s = cond (has_of 10 s) (formed (holds (upto_of 10 s)) (seek_of 10 s)) Cut
+unfoldable pub values_at : (last : List ℕ → Number) → (n i : ℕ) → List ℕ → Option (List ℕ × ℕ)
+values_at last n i s = cond (has_of 10 (drop i s)) (ended (values_of last n (upto_of 10 (drop i s))) (i + seek_of 10 (drop i s))) None
+
+-- the line that s begins with: its values, and the place of its byte 10; or its form is wrong, or it is cut off before one (rule 1.2)
+abbrev pub formed : Values → ℕ → Result (List ℕ × ℕ) Fault
+formed (found vs) e = Ok (vs, e)
+formed misread e = Err Wrong
+
+unfoldable pub line_of : (holds : List ℕ → Values) → List ℕ → Result (List ℕ × ℕ) Fault
+line_of holds s = cond (has_of 10 s) (formed (holds (upto_of 10 s)) (seek_of 10 s)) (Err Cut)

@@ -3,17 +3,22 @@ use Prim.Native.Nat.{ℕ, ◌+◌, ◌≤◌, ◌<◌}
 use mathlib.Core.Path.{◌≡◌, refl, sym, ap, ◌∙◌}
 use mathlib.Core.List.{List, [], ◌∷◌, ◌++◌}
 use mathlib.Core.Bool.{Bool, true}
+use Rattle.std.specs.Prelude.{Result, Ok, Err}
 use lib.ListN.{length, get_or, take, drop, set, length-set}
-use lib.Seq.{take-suc-set, take_all, length-take-le, get_or-take}
+use lib.Seq.{take-suc-set, take_all, length-take-le}
 use native.Mathlib.Omega.{arith}
 use native.Mathlib.Numerals.{add-one}
 use borrow.Author.Tests.{eq-eqb, ne_eqb}
-use Rattle.fields.specs.declared.Line.{Line}
-use Rattle.fields.specs.declared.Line.TheVariants.{Good, Wrong, Cut}
+use Rattle.fields.specs.declared.Fault.{Fault}
+use Rattle.fields.specs.declared.Fault.TheVariants.{Wrong, Cut}
 use Rattle.fields.specs.Split.{upto_of, past_of}
-use Rattle.fields.specs.Values.{Values, Held}
-use Rattle.fields.proofs.AnswerLaws.{is_good, is_wrong, is_cut, Answers}
+use Rattle.fields.specs.Values.{Values, line_of}
+use Rattle.fields.proofs.AnswerLaws.{is_good, is_wrong, is_cut}
+use Rattle.rules.specs.declared.refusals.Refusal.{Refusal}
+use Rattle.rules.specs.declared.refusals.Refused.{Refused}
+use Rattle.rules.specs.Refusals.{number, verdict}
 use Rattle.rules.specs.Heading.{term_rules, term_rule}
+use Rattle.rules.proofs.RefusalLaws.{numbered}
 use Rattle.rules.proofs.TermLaws.{only_before}
 use Rattle.rules.specs.Outcome.{refusal}
 use Rattle.walk.specs.Settled.{settled}
@@ -22,7 +27,8 @@ use Rattle.walk.specs.Step.{heading, right, after_term, term_line, verdict_of}
 use Rattle.walk.specs.Walk.{start, walk_from}
 use Rattle.walk.specs.Kept.{Each}
 use Rattle.walk.proofs.StepLaws.{each_next}
-use Rattle.stretches.proofs.StretchLaws.{line_cut, line_wrong, line_refused, line_passed, next_rest, next_within}
+use Rattle.stretches.specs.Refusing.{plan_line, at_line}
+use Rattle.stretches.proofs.StretchLaws.{line_cut, line_wrong, line_refused, line_passed, next_rest, next_within, plan_refused, plan_passed, rule_refused, rule_passed}
 use Rattle.heading.specs.Stretch.{HeadDone}
 
 -- a form and a rule for each term
@@ -44,8 +50,9 @@ unfolding term_forms
 terms_none ranges s terms size =
     record { size = size; few = omega arith; place = refl; within = omega arith; kept = λ on. tt; way = refl }
 
-module _ {ranges : Bool} {s terms : List ℕ} {line at k : ℕ} (t : TermsRead ranges s terms line at k) (more : k < length term_rules) (values : List ℕ) {rest : List ℕ} (cut : rest ≡ drop at s) {r : Line} (given : Answers (term_form k) rest r (Held (term_form k (upto_of 10 rest)) 0 values)) where
-  read : Answers (term_form k) (drop at s) r (Held (term_form k (upto_of 10 (drop at s))) 0 values)
+-- the next line
+module _ {ranges : Bool} {s terms : List ℕ} {line at k : ℕ} (t : TermsRead ranges s terms line at k) (more : k < length term_rules) (rest : List ℕ) (cut : rest ≡ drop at s) {r : Result (List ℕ × ℕ) Fault} (given : r ≡ line_of (term_form k) rest) where
+  read : r ≡ line_of (term_form k) (drop at s)
   read = rw cut at given
 
   count : length (take k terms) ≡ k
@@ -55,44 +62,53 @@ module _ {ranges : Bool} {s terms : List ℕ} {line at k : ℕ} (t : TermsRead r
   due =
       t.way ∙ simp (ne_eqb (length (take k terms)) (length term_forms) (λ e. omega (arith, count, as_many)))
 
-  pub terms_cut : r ≡ Cut → walk_from ranges 1 start s ≡ refusal 2 line
-  terms_cut is = due ∙ line_cut ranges line (heading (take k terms)) (drop at s) (is_cut (term_form k) (drop at s) read.0 is)
-
   form : {x : Values} (ahead : List ℕ) → term_form k (upto_of 10 (drop at s)) ≡ x → verdict_of (heading (take k terms)) (upto_of 10 (drop at s)) ahead ≡ term_line (take k terms) x
   unfolding verdict_of
   form ahead is = rw (count, is)
 
-  pub terms_wrong : r ≡ Wrong → walk_from ranges 1 start s ≡ refusal 10 line
-  terms_wrong is =
-      let w = is_wrong (term_form k) (drop at s) read.0 is in
+  cut_off : r ≡ Err Cut → walk_from ranges 1 start s ≡ refusal 2 line
+  cut_off is = due ∙ line_cut ranges line (heading (take k terms)) (drop at s) (is_cut (term_form k) (drop at s) read is)
+
+  misread : r ≡ Err Wrong → walk_from ranges 1 start s ≡ refusal 10 line
+  misread is =
+      let w = is_wrong (term_form k) (drop at s) read is in
       due ∙ line_wrong ranges line (heading (take k terms)) (drop at s) w.0 (form (upto_of 10 (past_of 10 (drop at s))) w.1)
 
-  module _ {e x : ℕ} (is : r ≡ Good e) (rule : x ≡ settled ranges (term_rule k terms (get_or values 0 0))) where
-    good : verdict_of (heading (take k terms)) (upto_of 10 (drop at s)) (upto_of 10 (past_of 10 (drop at s))) ≡ right (term_refusal (take k terms) (get_or values 0 0)) (after_term (take k terms ++ get_or values 0 0 ∷ []))
-    good = form (upto_of 10 (past_of 10 (drop at s))) (read.1 e is).is ∙ rw (get_or-take 1 values 0 0 (omega arith))
+  -- it isn't read
+  pub terms_unread : {e : Refused} → Err e ≡ plan_line r line → walk_from ranges 1 start s ≡ refusal (number e.refusal) e.line
+  terms_unread is = plan_refused line (λ n l. walk_from ranges 1 start s ≡ refusal n l) r is misread cut_off
 
-    judged : x ≡ settled ranges (term_refusal (take k terms) (get_or values 0 0))
-    judged = rule ∙ rw (count) (ap (settled ranges) (sym (only_before k terms (get_or values 0 0))))
+  -- it is, and its rule is asked
+  module _ {a : List ℕ × ℕ} (is : Ok a ≡ plan_line r line) where
+    abbrev v : ℕ
+    v = get_or a.0 0 0
 
-    pub terms_refused : (x ≡ 0 → ⊥) → walk_from ranges 1 start s ≡ refusal x line
-    terms_refused h =
-        due ∙ line_refused ranges line (heading (take k terms)) (drop at s) (is_good (term_form k) (drop at s) read.0 is).has good judged h
+    pub terms_place : at + (a.1 + 1) ≤ length s
+    terms_place = next_within s at a.1 (is_good (term_form k) (drop at s) read (plan_passed line r is)).line
 
-    pub terms_place : at + (e + 1) ≤ length s
-    terms_place = next_within s at e (is_good (term_form k) (drop at s) read.0 is)
+    module _ (x : Result (Unit {0}) Refusal) (rule : verdict x ≡ settled ranges (term_rule k terms v)) where
+      good : verdict_of (heading (take k terms)) (upto_of 10 (drop at s)) (upto_of 10 (past_of 10 (drop at s))) ≡ right (term_refusal (take k terms) v) (after_term (take k terms ++ v ∷ []))
+      good = form (upto_of 10 (past_of 10 (drop at s))) (is_good (term_form k) (drop at s) read (plan_passed line r is)).is
 
-    pub terms_next : x ≡ 0 → TermsRead ranges s (set terms k (get_or values 0 0)) (line + 1) (at + (e + 1)) (k + 1)
-    terms_next h =
-        let g = is_good (term_form k) (drop at s) read.0 is in
-        let stored : take (k + 1) (set terms k (get_or values 0 0)) ≡ take k terms ++ get_or values 0 0 ∷ [] = rw (add-one k) (take-suc-set terms k (get_or values 0 0) (omega (arith, t.size))) in
-        record {
-          size = length-set terms k (get_or values 0 0) ∙ t.size;
-          few = omega arith;
-          place = omega (arith, t.place);
-          within = next_within s at e g;
-          kept = λ on. rw stored ((each_next term_refusal [] (take k terms) (get_or values 0 0)).1 (t.kept on, sym (judged ∙ rw on) ∙ h));
-          way = due ∙ line_passed ranges line (heading (take k terms)) (drop at s) g.has good judged h (next_rest s at e g) ∙ rw stored;
-        }
+      judged : verdict x ≡ settled ranges (term_refusal (take k terms) v)
+      judged = rule ∙ rw (count) (ap (settled ranges) (sym (only_before k terms v)))
+
+      pub terms_refused : {e : Refused} → Err e ≡ at_line x line → walk_from ranges 1 start s ≡ refusal (number e.refusal) e.line
+      terms_refused {e} told = rule_refused line (λ n l. walk_from ranges 1 start s ≡ refusal n l) x told (λ same. due ∙ line_refused ranges line (heading (take k terms)) (drop at s) (is_good (term_form k) (drop at s) read (plan_passed line r is)).line.has good (sym same ∙ judged) (numbered e.refusal))
+
+      pub terms_next : {u : Unit {0}} → Ok u ≡ at_line x line → TermsRead ranges s (set terms k v) (line + 1) (at + (a.1 + 1)) (k + 1)
+      terms_next told =
+          let g = (is_good (term_form k) (drop at s) read (plan_passed line r is)).line in
+          let none : 0 ≡ settled ranges (term_refusal (take k terms) v) = sym (rule_passed line x told) ∙ judged in
+          let stored : take (k + 1) (set terms k v) ≡ take k terms ++ v ∷ [] = rw (add-one k) (take-suc-set terms k v (omega (arith, t.size))) in
+          record {
+            size = length-set terms k v ∙ t.size;
+            few = omega arith;
+            place = omega (arith, t.place);
+            within = next_within s at a.1 g;
+            kept = λ on. rw stored ((each_next term_refusal [] (take k terms) v).1 (t.kept on, sym (none ∙ rw on)));
+            way = due ∙ line_passed ranges line (heading (take k terms)) (drop at s) g.has good none refl (next_rest s at a.1 g) ∙ rw stored;
+          }
 
 -- all are read
 pub terms_done : {ranges : Bool} {s terms : List ℕ} {line at k : ℕ} (t : TermsRead ranges s terms line at k) → length term_rules ≤ k → HeadDone ranges s line at terms

@@ -1,3 +1,3 @@
--- The laws of the heading: a line of it, and the loop over its lines.
+-- The laws of the heading's lines, and of the loop over them.
 pub mod LineLaws
 pub mod HeadLaws

@@ -1,145 +1,126 @@
 // The heading, RULES section 2: the plan's own terms.
 #![tactic(auto)]
 
-ghost use Rattle.std.specs.Prelude.{◌≡◌, ℕ};
-ghost use Rattle.fields.specs.declared.Line.TheVariants.{Good};
-ghost use Rattle.fields.specs.Split.{upto_of};
-ghost use Rattle.fields.specs.Values.{Held, line_of};
+ghost use Rattle.std.specs.Prelude.{◌≡◌, ◌==◌, position};
+ghost use Rattle.fields.specs.Values.{line_of};
+ghost use Rattle.rules.specs.Refusals.{verdict};
 ghost use Rattle.rules.specs.Heading.{term_rule};
 ghost use Rattle.walk.specs.Settled.{settled};
 ghost use Rattle.walk.specs.Terms.{formula_word, method_word, term_form};
 ghost use Rattle.heading.specs.Words.{coded, word_of};
 ghost use Rattle.heading.specs.Stretch.{HeadIs};
 
-use fields::text::{from, same, seek};
-use fields::{Line, Read};
+use fields::{Fault, Line};
 use plan::{TERMS, Terms};
-use rules::refusals::{CUT_OFF, PLAN_FORM};
+use rules::refusals::{Refusal, Refused};
 use rules::terms::term_rule;
-use stretches::Stretch;
-use values::{one_value, unread};
+use stretches::{Next, at_line, plan_line};
+use values::{unread, values_to_amount, whole_values};
 
-// Rules 2.4 and 5.4: the code of the formula, 0 for another word.
-fn formula_code(line: &[u8]) -> u64
+// Rules 2.4 and 5.4: the code of the formula, none for another word.
+fn formula_code(line: &[u8]) -> Option<u64>
     ensures { coded result ≡ formula_word line.now }
 {
-    if same(line, b"formula=flat") {
-        return 1;
+    if line == b"formula=flat".as_slice() {
+        Some(1)
+    } else if line == b"formula=career".as_slice() {
+        Some(2)
+    } else if line == b"formula=final".as_slice() {
+        Some(3)
+    } else {
+        None
     }
-    if same(line, b"formula=career") {
-        return 2;
-    }
-    if same(line, b"formula=final") {
-        return 3;
-    }
-    0
 }
 
-// Rules 2.7 and 5.4: the code of the method, 0 for another word.
-fn method_code(line: &[u8]) -> u64
+// Rules 2.7 and 5.4: the code of the method, none for another word.
+fn method_code(line: &[u8]) -> Option<u64>
     ensures { coded result ≡ method_word line.now }
 {
-    if same(line, b"method=AB") {
-        return 1;
-    }
-    if same(line, b"method=BD") {
-        return 2;
-    }
-    if same(line, b"method=BP") {
-        return 3;
-    }
-    if same(line, b"method=CD") {
-        return 4;
-    }
-    if same(line, b"method=CP") {
-        return 5;
-    }
-    0
-}
-
-fn word_code(line: &[u8], method: bool) -> u64
-    ensures { coded result ≡ word_of method line.now }
-{
-    if method {
-        method_code(line)
+    if line == b"method=AB".as_slice() {
+        Some(1)
+    } else if line == b"method=BD".as_slice() {
+        Some(2)
+    } else if line == b"method=BP".as_slice() {
+        Some(3)
+    } else if line == b"method=CD".as_slice() {
+        Some(4)
+    } else if line == b"method=CP".as_slice() {
+        Some(5)
     } else {
-        formula_code(line)
+        None
     }
 }
 
-// The line of the formula or of the method. Where it is one, its code is written to the front of `values`.
-fn word_line(s: &[u8], method: bool, values: &mut Read) -> Line
-    ensures value { result ≡ line_of (word_of method) s.now }
-    ensures by_index { (e : ℕ) → result ≡ Good e → Held (word_of method (upto_of 10 s.now)) 0 values.new }
+// The place of the first byte 10.
+fn line_end(s: &[u8]) -> Option<usize>
+    ensures { result ≡ position (λ b. b == 10) s.now }
 {
-    let e = seek(s, 10);
-    if s.len() <= e {
-        return Line::Cut;
-    }
-    let code = word_code(&s[..e], method);
-    if code == 0 {
-        return Line::Wrong;
-    }
-    *values = [code, 0, 0, 0, 0];
-    Line::Good(e)
+    s.iter().position(|b| *b == 10)
 }
 
-// The line of the term with k before it. Where its form is right its value is written to the front of `values`.
-fn term_line(s: &[u8], k: usize, values: &mut Read) -> Line
-    ensures value { result ≡ line_of (term_form k) s.now }
-    ensures by_index { (e : ℕ) → result ≡ Good e → Held (term_form k (upto_of 10 s.now)) 0 values.new }
+// The line of the formula or of the method: the code of its word.
+fn word_line(s: &[u8], method: bool) -> Line<1>
+    ensures { result ≡ line_of (word_of method) s.now }
+{
+    let Some(end) = line_end(s) else {
+        return Err(Fault::Cut);
+    };
+    let word = &s[..end];
+    let code = if method {
+        method_code(word)
+    } else {
+        formula_code(word)
+    };
+    match code {
+        Some(code) => Ok(([code], end)),
+        None => Err(Fault::Wrong),
+    }
+}
+
+// The line of the term with k before it: its one value.
+fn term_line(s: &[u8], k: usize) -> Line<1>
+    ensures { result ≡ line_of (term_form k) s.now }
 {
     match k {
-        0 => one_value(s, b"interest=", false, values),
-        1 => one_value(s, b"retire=", false, values),
-        2 => one_value(s, b"pay=", false, values),
-        3 => word_line(s, false, values),
-        4 => one_value(s, b"unit=", false, values),
-        5 => one_value(s, b"average=", false, values),
-        6 => word_line(s, true, values),
-        7 => one_value(s, b"assets=", true, values),
-        8 => one_value(s, b"years=", false, values),
-        _ => unread(s),
+        0 => whole_values(s, b"interest="),
+        1 => whole_values(s, b"retire="),
+        2 => whole_values(s, b"pay="),
+        3 => word_line(s, false),
+        4 => whole_values(s, b"unit="),
+        5 => whole_values(s, b"average="),
+        6 => word_line(s, true),
+        7 => values_to_amount(s, b"assets="),
+        8 => whole_values(s, b"years="),
+        _ => Err(unread(s)),
     }
 }
 
-// The range rule of a term where the ranges are settled: a number, 0 for none.
-fn term_refusal(ranges: bool, k: usize, terms: &Terms, v: u64) -> u64
-    ensures { result ≡ settled ranges (term_rule k terms.now v) }
+// The range rule of a term, where the ranges are settled.
+fn term_refusal(ranges: bool, k: usize, terms: &Terms, value: u64) -> Result<(), Refusal>
+    ensures { verdict result ≡ settled ranges (term_rule k terms.now value) }
 {
-    if ranges { term_rule(k, terms, v) } else { 0 }
+    if ranges {
+        term_rule(k, terms, value)
+    } else {
+        Ok(())
+    }
 }
 
 // Reads the terms, and settles their ranges too where that is asked for. After a refusal `terms` is left open.
-pub fn head_lines(s: &[u8], ranges: bool, terms: &mut Terms) -> Stretch
+pub fn head_lines(s: &[u8], ranges: bool, terms: &mut Terms) -> Result<Next, Refused>
     ensures { HeadIs ranges s.now result terms.new }
 {
     // Nothing that the caller left there is taken for a term.
-    *terms = [0u64; TERMS];
-    let mut values = [0u64; 5];
-    let mut line: u64 = 1;
+    *terms = [0; TERMS];
+    let mut line = 1;
     let mut at = 0;
-    let mut k = 0;
-    while k < TERMS {
-        match term_line(from(s, at), k, &mut values) {
-            Line::Good(e) => {
-                let v = values[0];
-                let refusal = term_refusal(ranges, k, terms, v);
-                if refusal != 0 {
-                    return Stretch::Refused(refusal, line);
-                }
-                terms[k] = v;
-                at += e + 1;
-            }
-            Line::Wrong => {
-                return Stretch::Refused(PLAN_FORM, line);
-            }
-            Line::Cut => {
-                return Stretch::Refused(CUT_OFF, line);
-            }
-        }
+    for k in 0..TERMS {
+        let (values, end) = plan_line(term_line(&s[at..], k), line)?;
+        let value = values[0];
+        at_line(term_refusal(ranges, k, terms, value), line)?;
+        terms[k] = value;
         line += 1;
-        k += 1;
+        at += end + 1;
     }
-    Stretch::Done(line, at)
+    Ok(Next { line, at })
 }

@@ -5,41 +5,44 @@
 ghost use Rattle.std.specs.Prelude.{◌≡◌, true, ◌≤◌};
 ghost use Rattle.rule_order.specs.Acceptance.{plan_refusal};
 ghost use Rattle.walk.specs.Step.{Head};
-ghost use Rattle.members.specs.Stretch.{SameHead, MembersAre, end_count};
+ghost use Rattle.members.specs.Stretch.{SameHead, MembersAre, form_line, end_count};
 
-use fields::text::from;
 use line_rules::line_refusal;
-use persons::CELLS;
+use persons::Persons;
 use plan::{MOST_MEMBERS, Members, Plan};
 use rates::Rows;
-use rules::refusals::{BYTES_AFTER, CUT_OFF, MEMBER_FORM, SURPLUS_MEMBER, WRONG_COUNT};
-use tails::{Kind, member_from, tail_line};
+use rules::refusals::{Refusal, Refused};
+use stretches::at_line;
+use tails::{Tail, TailFault, tail_line};
 
-// The count of members, or the first refusal's number and line.
-#[derive(Clone, Copy)]
-pub enum Count {
-    Counted(u64),
-    Refused(u64, u64),
-}
-
-// The end line after `count` members, at a line, with so many bytes after it.
-fn end_count(n: u64, count: u64, line: u64, after: usize) -> Count
-    requires { line ≤ 1000000 }
-    ensures { result ≡ end_count n count line after }
+// What was read of a line after the rows: a fault is its refusal, at the line.
+fn form_line(read: Result<(Tail, usize), TailFault>, line: u64) -> Result<(Tail, usize), Refused>
+    ensures { result ≡ form_line read line }
 {
-    if n == count {
-        if after == 0 {
-            Count::Counted(count)
-        } else {
-            Count::Refused(BYTES_AFTER, line + 1)
-        }
-    } else {
-        Count::Refused(WRONG_COUNT, line)
+    match read {
+        Ok(read) => Ok(read),
+        Err(TailFault::Surplus) => Err(Refusal::SurplusMember.at(line)),
+        Err(TailFault::Neither) => Err(Refusal::MemberForm.at(line)),
+        Err(TailFault::Cut) => Err(Refusal::CutOff.at(line)),
     }
 }
 
-// Reads the members from a line on into the array, and the end; and settles their ranges too where that is asked for.
-// After a refusal the array is left open.
+// The end line after `count` members, at a line, with so many bytes after it.
+fn end_count(n: u64, count: u64, line: u64, after: usize) -> Result<u64, Refused>
+    requires { line ≤ 1000000 }
+    ensures { result ≡ end_count n count line after }
+{
+    if n != count {
+        return Err(Refusal::WrongCount.at(line));
+    }
+    if after != 0 {
+        return Err(Refusal::BytesAfter.at(line + 1));
+    }
+    Ok(count)
+}
+
+// Reads the members from a line on into the array, and the end, and counts them; and settles their ranges too where that is
+// asked for. After a refusal the array is left open.
 pub fn member_lines(
     s: &[u8],
     first: u64,
@@ -47,46 +50,31 @@ pub fn member_lines(
     p: Plan,
     rows: &Rows,
     members: &mut Members,
-) -> Count
+) -> Result<u64, Refused>
     requires { (ranges ≡ true → plan_refusal p rows.now ≡ 0) × (first ≤ 65642) }
     ensures { (h : Head) → SameHead ranges p rows.now h → MembersAre ranges h first s.now result members.new }
 {
     // Nothing that the caller left there is taken for a member.
-    *members = [[0u64; 5]; MOST_MEMBERS];
-    let mut cells = [0u32; CELLS];
-    let mut sums = [[0u64; 2]; MOST_MEMBERS];
-    let mut values = [0u64; 5];
+    *members = [[0; 5]; MOST_MEMBERS];
+    let mut persons = Persons::none();
     let mut at = 0;
-    let mut count: u64 = 0;
-    let mut before: u64 = 0;
+    let mut count = 0;
+    let mut before = 0;
     loop {
-        let line = first + count;
-        match tail_line(from(s, at), count == MOST_MEMBERS as u64, &mut values) {
-            Kind::Listed(e) => {
-                let m = member_from(&values);
-                let j = count as usize;
-                let refusal = line_refusal(ranges, p, rows, before, m, j, &mut cells, &mut sums);
-                if refusal != 0 {
-                    return Count::Refused(refusal, line);
-                }
-                members[j] = [m.id, m.person, m.entry, m.age, m.salary];
+        let line = first + count as u64;
+        let (tail, end) = form_line(tail_line(&s[at..], count == MOST_MEMBERS), line)?;
+        at += end + 1;
+        match tail {
+            Tail::Listed(m) => {
+                at_line(
+                    line_refusal(ranges, p, rows, before, m, count, &mut persons),
+                    line,
+                )?;
+                members[count] = <[u64; 5]>::from(m);
                 before = m.id;
-                at += e + 1;
                 count += 1;
             }
-            Kind::End(e) => {
-                let after = s.len() - (at + e + 1);
-                return end_count(values[0], count, line, after);
-            }
-            Kind::Surplus => {
-                return Count::Refused(SURPLUS_MEMBER, line);
-            }
-            Kind::Neither => {
-                return Count::Refused(MEMBER_FORM, line);
-            }
-            Kind::Cut => {
-                return Count::Refused(CUT_OFF, line);
-            }
+            Tail::End(n) => return end_count(n, count as u64, line, s.len() - at),
         }
     }
 }

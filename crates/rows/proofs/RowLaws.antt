@@ -10,18 +10,23 @@ use native.Mathlib.Omega.{arith}
 use native.Mathlib.Numerals.{add-one}
 use native.Mathlib.Nat.{min-eq_left}
 use borrow.Author.Tests.{eq-eqb, ne_eqb, leb-true}
-use Rattle.fields.specs.declared.Line.{Line}
-use Rattle.fields.specs.declared.Line.TheVariants.{Good, Wrong, Cut}
+use Rattle.std.specs.Prelude.{Result, Ok, Err}
+use Rattle.fields.specs.declared.Fault.{Fault}
+use Rattle.fields.specs.declared.Fault.TheVariants.{Wrong, Cut}
 use Rattle.fields.specs.Split.{upto_of, past_of}
-use Rattle.fields.specs.Values.{Values}
+use Rattle.fields.specs.Values.{Values, line_of}
 use Rattle.fields.proofs.SplitLaws.{and_true_left, and_true_right}
-use Rattle.fields.proofs.AnswerLaws.{is_good, is_wrong, is_cut, Answers}
+use Rattle.fields.proofs.AnswerLaws.{is_good, is_wrong, is_cut}
 use Rattle.rates.specs.Table.{ages}
 use Rattle.rules.specs.Rules.{first_among, between}
 use Rattle.row_rules.specs.Table.{row_rules, row_numbers, weight_before}
 use Rattle.row_rules.proofs.TableLaws.{weight_passed}
 use Rattle.rules.proofs.RuleLaws.{all_kept, kept}
 use Rattle.plan.specs.declared.Amendment.{Amendment}
+use Rattle.rules.specs.declared.refusals.Refusal.{Refusal}
+use Rattle.rules.specs.declared.refusals.Refused.{Refused}
+use Rattle.rules.specs.Refusals.{number, verdict}
+use Rattle.rules.proofs.RefusalLaws.{numbered}
 use Rattle.rules.specs.Outcome.{refusal}
 use Rattle.walk.specs.Settled.{settled}
 use Rattle.walk.specs.Lines.{row_form, due_age, row_refusal}
@@ -30,15 +35,25 @@ use Rattle.walk.specs.Walk.{walk_from}
 use Rattle.walk.specs.Kept.{Each}
 use Rattle.walk.proofs.StepLaws.{each_next}
 use Rattle.stretches.specs.Heads.{amended, tabled}
-use Rattle.stretches.proofs.StretchLaws.{line_cut, line_wrong, line_refused, line_passed, next_rest, next_within}
-use Rattle.rows.specs.Narrow.{four_of, RowHeld, narrow_of}
+use Rattle.stretches.specs.Refusing.{plan_line, at_line}
+use Rattle.stretches.proofs.StretchLaws.{line_cut, line_wrong, line_refused, line_passed, next_rest, next_within, plan_refused, plan_passed, rule_refused, rule_passed}
+use Rattle.rows.specs.Narrow.{narrow_of}
 use Rattle.rows.specs.Stretch.{RowsDone}
+use Rattle.rows.proofs.LineLaws.{row_long}
+
+four : (v : List ℕ) → length v ≡ 4 → v ≡ get_or v 0 0 ∷ get_or v 1 0 ∷ get_or v 2 0 ∷ get_or v 3 0 ∷ []
+four [] h = absurd (omega arith)
+four (a ∷ []) h = absurd (omega arith)
+four (a ∷ b ∷ []) h = absurd (omega arith)
+four (a ∷ b ∷ c ∷ []) h = absurd (omega arith)
+four (a ∷ b ∷ c ∷ d ∷ []) h = refl
+four (a ∷ b ∷ c ∷ d ∷ e ∷ v) h = absurd (omega arith)
 
 -- a row that keeps the rules fits 32 bits
-row_narrow : (age before : ℕ) (values : List ℕ) → first_among (row_rules age before (row_numbers (four_of values))) ≡ 0 → map narrow_of (four_of values) ≡ four_of values
+row_narrow : (age before : ℕ) (row : List ℕ) → length row ≡ 4 → first_among (row_rules age before (row_numbers row)) ≡ 0 → map narrow_of row ≡ row
 unfolding row_rules
-row_narrow age before values e =
-    let r = row_numbers (four_of values) in
+row_narrow age before row size e =
+    let r = row_numbers row in
     let k = all_kept (row_rules age before r) e in
     let rates = kept (leb r.death 1000000 && (leb r.withdrawal 1000000 && leb r.disability 1000000)) 10 k.0 in
     let others = and_true_right (leb r.death 1000000) (leb r.withdrawal 1000000 && leb r.disability 1000000) rates in
@@ -47,7 +62,9 @@ row_narrow age before values e =
     let hw : r.withdrawal ≤ 1000000 = leb-true _ _ (and_true_left (leb r.withdrawal 1000000) (leb r.disability 1000000) others) in
     let hi : r.disability ≤ 1000000 = leb-true _ _ (and_true_right (leb r.withdrawal 1000000) (leb r.disability 1000000) others) in
     let hz : r.weight ≤ 100000 = leb-true _ _ (and_true_right (leb 1000 r.weight) (leb r.weight 100000) scale) in
-    rw (min-eq_left {n = r.death} {m = 4294967295} (omega arith), min-eq_left {n = r.withdrawal} {m = 4294967295} (omega arith), min-eq_left {n = r.disability} {m = 4294967295} (omega arith), min-eq_left {n = r.weight} {m = 4294967295} (omega arith))
+    ap (map narrow_of) (four row size)
+    ∙ rw (min-eq_left {n = r.death} {m = 4294967295} (omega arith), min-eq_left {n = r.withdrawal} {m = 4294967295} (omega arith), min-eq_left {n = r.disability} {m = 4294967295} (omega arith), min-eq_left {n = r.weight} {m = 4294967295} (omega arith))
+    (sym (four row size))
 
 weight_next : (rows : List (List ℕ)) (r : List ℕ) → due_age rows ≤ 120 → weight_before (rows ++ r ∷ []) (due_age rows + 1) ≡ get_or r 3 0
 weight_next rows r old =
@@ -72,60 +89,68 @@ pub rows_none : (ranges : Bool) (first : ℕ) (s : List ℕ) (array : List (List
 rows_none ranges first s array size =
     record { rows = []; many = refl; size = size; few = omega arith; place = omega arith; within = omega arith; weighed = refl; held = refl; exact = λ on. refl; kept = λ on. tt; way = λ t l. refl }
 
-module _ {ranges : Bool} {first : ℕ} {s : List ℕ} {array : List (List ℕ)} {line at k before : ℕ} (i : RowsRead ranges first s array line at k before) (more : k < 106) (values : List ℕ) {rest : List ℕ} (cut : rest ≡ drop at s) {r : Line} (given : Answers (row_form (k + 15)) rest r (RowHeld (row_form (k + 15) (upto_of 10 rest)) values)) where
-  read : Answers (row_form (k + 15)) (drop at s) r (RowHeld (row_form (k + 15) (upto_of 10 (drop at s))) values)
+-- the next line
+module _ {ranges : Bool} {first : ℕ} {s : List ℕ} {array : List (List ℕ)} {line at k before : ℕ} (i : RowsRead ranges first s array line at k before) (more : k < 106) (rest : List ℕ) (cut : rest ≡ drop at s) {r : Result (List ℕ × ℕ) Fault} (given : r ≡ line_of (row_form (k + 15)) rest) where
+  read : r ≡ line_of (row_form (k + 15)) (drop at s)
   read = rw cut at given
 
   module _ (t : List ℕ) (l : List Amendment) where
     due : walk_from ranges first (table (amended t l)) s ≡ walk_from ranges line (table (tabled t l i.rows)) (drop at s)
     due = i.way t l ∙ simp (ne_eqb (length i.rows) ages (λ e. omega (arith, i.many)))
 
-    pub rows_cut : r ≡ Cut → walk_from ranges first (table (amended t l)) s ≡ refusal 2 line
-    rows_cut is = due ∙ line_cut ranges line (table (tabled t l i.rows)) (drop at s) (is_cut (row_form (k + 15)) (drop at s) read.0 is)
-
     form : {x : Values} (ahead : List ℕ) → row_form (k + 15) (upto_of 10 (drop at s)) ≡ x → verdict_of (table (tabled t l i.rows)) (upto_of 10 (drop at s)) ahead ≡ row_line (tabled t l i.rows) x
     unfolding verdict_of
     form ahead is = rw (i.many, is)
 
-    pub rows_wrong : r ≡ Wrong → walk_from ranges first (table (amended t l)) s ≡ refusal 10 line
-    rows_wrong is =
-        let w = is_wrong (row_form (k + 15)) (drop at s) read.0 is in
+    cut_off : r ≡ Err Cut → walk_from ranges first (table (amended t l)) s ≡ refusal 2 line
+    cut_off is = due ∙ line_cut ranges line (table (tabled t l i.rows)) (drop at s) (is_cut (row_form (k + 15)) (drop at s) read is)
+
+    misread : r ≡ Err Wrong → walk_from ranges first (table (amended t l)) s ≡ refusal 10 line
+    misread is =
+        let w = is_wrong (row_form (k + 15)) (drop at s) read is in
         due ∙ line_wrong ranges line (table (tabled t l i.rows)) (drop at s) w.0 (form (upto_of 10 (past_of 10 (drop at s))) w.1)
 
-  module _ {e x : ℕ} (is : r ≡ Good e) (rule : x ≡ settled ranges (first_among (row_rules (k + 15) before (row_numbers (four_of values))))) where
-    judged : x ≡ settled ranges (row_refusal i.rows (four_of values))
-    judged = rule ∙ rw (i.weighed, i.many)
+    -- it isn't read
+    pub rows_unread : {e : Refused} → Err e ≡ plan_line r line → walk_from ranges first (table (amended t l)) s ≡ refusal (number e.refusal) e.line
+    rows_unread is = plan_refused line (λ n j. walk_from ranges first (table (amended t l)) s ≡ refusal n j) r is misread cut_off
 
-    good : (t : List ℕ) (l : List Amendment) → verdict_of (table (tabled t l i.rows)) (upto_of 10 (drop at s)) (upto_of 10 (past_of 10 (drop at s))) ≡ right (row_refusal i.rows (four_of values)) (after_row (with_row (tabled t l i.rows) (four_of values)))
-    good t l = form t l (upto_of 10 (past_of 10 (drop at s))) (read.1 e is).is
+  -- it is, and its rules are asked
+  module _ {a : List ℕ × ℕ} (is : Ok a ≡ plan_line r line) where
+    pub rows_place : at + (a.1 + 1) ≤ length s
+    rows_place = next_within s at a.1 (is_good (row_form (k + 15)) (drop at s) read (plan_passed line r is)).line
 
-    pub rows_refused : (x ≡ 0 → ⊥) → (t : List ℕ) (l : List Amendment) → walk_from ranges first (table (amended t l)) s ≡ refusal x line
-    rows_refused h t l =
-        due t l ∙ line_refused ranges line (table (tabled t l i.rows)) (drop at s) (is_good (row_form (k + 15)) (drop at s) read.0 is).has (good t l) judged h
+    module _ (x : Result (Unit {0}) Refusal) (rule : verdict x ≡ settled ranges (first_among (row_rules (k + 15) before (row_numbers a.0)))) where
+      judged : verdict x ≡ settled ranges (row_refusal i.rows a.0)
+      judged = rule ∙ rw (i.weighed, i.many)
 
-    pub rows_place : at + (e + 1) ≤ length s
-    rows_place = next_within s at e (is_good (row_form (k + 15)) (drop at s) read.0 is)
+      good : (t : List ℕ) (l : List Amendment) → verdict_of (table (tabled t l i.rows)) (upto_of 10 (drop at s)) (upto_of 10 (past_of 10 (drop at s))) ≡ right (row_refusal i.rows a.0) (after_row (with_row (tabled t l i.rows) a.0))
+      good t l = form t l (upto_of 10 (past_of 10 (drop at s))) (is_good (row_form (k + 15)) (drop at s) read (plan_passed line r is)).is
 
-    pub rows_next : {row : List ℕ} → x ≡ 0 → row ≡ map narrow_of (four_of values) → RowsRead ranges first s (set array k row) (line + 1) (at + (e + 1)) (k + 1) (get_or values 4 0)
-    rows_next {row} h narrow =
-        let four = four_of values in
-        let g = is_good (row_form (k + 15)) (drop at s) read.0 is in
-        let long = length-append i.rows (four ∷ []) in
-        let stored : take (k + 1) (set array k row) ≡ take k array ++ row ∷ [] = rw (add-one k) (take-suc-set array k row (omega (arith, i.size))) in
-        let older : k + 1 + 15 ≡ due_age i.rows + 1 = omega (arith, i.many) in
-        record {
-          rows = i.rows ++ four ∷ [];
-          many = omega (arith, i.many, long);
-          size = length-set array k row ∙ i.size;
-          few = omega arith;
-          place = omega (arith, i.place);
-          within = next_within s at e g;
-          weighed = rw older (sym (weight_next i.rows four (omega (arith, i.many))));
-          held = stored ∙ rw (i.held, narrow) (sym (map-append (map narrow_of) i.rows (four ∷ [])));
-          exact = λ on. map-append (map narrow_of) i.rows (four ∷ []) ∙ rw (i.exact on, row_narrow (k + 15) before values (sym (rule ∙ rw on) ∙ h));
-          kept = λ on. (each_next row_refusal [] i.rows four).1 (i.kept on, sym (judged ∙ rw on) ∙ h);
-          way = λ t l. due t l ∙ line_passed ranges line (table (tabled t l i.rows)) (drop at s) g.has (good t l) judged h (next_rest s at e g);
-        }
+      pub rows_refused : (t : List ℕ) (l : List Amendment) {e : Refused} → Err e ≡ at_line x line → walk_from ranges first (table (amended t l)) s ≡ refusal (number e.refusal) e.line
+      rows_refused t l {e} told =
+          rule_refused line (λ n j. walk_from ranges first (table (amended t l)) s ≡ refusal n j) x told (λ same. due t l ∙ line_refused ranges line (table (tabled t l i.rows)) (drop at s) (is_good (row_form (k + 15)) (drop at s) read (plan_passed line r is)).line.has (good t l) (sym same ∙ judged) (numbered e.refusal))
+
+      pub rows_next : {u : Unit {0}} → Ok u ≡ at_line x line → {row : List ℕ} → row ≡ map narrow_of a.0 → RowsRead ranges first s (set array k row) (line + 1) (at + (a.1 + 1)) (k + 1) (get_or a.0 3 0)
+      rows_next told {row} narrow =
+          let size = row_long (k + 15) (upto_of 10 (drop at s)) (is_good (row_form (k + 15)) (drop at s) read (plan_passed line r is)).is in
+          let g = (is_good (row_form (k + 15)) (drop at s) read (plan_passed line r is)).line in
+          let none : 0 ≡ settled ranges (row_refusal i.rows a.0) = sym (rule_passed line x told) ∙ judged in
+          let long = length-append i.rows (a.0 ∷ []) in
+          let stored : take (k + 1) (set array k row) ≡ take k array ++ row ∷ [] = rw (add-one k) (take-suc-set array k row (omega (arith, i.size))) in
+          let older : k + 1 + 15 ≡ due_age i.rows + 1 = omega (arith, i.many) in
+          record {
+            rows = i.rows ++ a.0 ∷ [];
+            many = omega (arith, i.many, long);
+            size = length-set array k row ∙ i.size;
+            few = omega arith;
+            place = omega (arith, i.place);
+            within = next_within s at a.1 g;
+            weighed = rw older (sym (weight_next i.rows a.0 (omega (arith, i.many))));
+            held = stored ∙ rw (i.held, narrow) (sym (map-append (map narrow_of) i.rows (a.0 ∷ [])));
+            exact = λ on. map-append (map narrow_of) i.rows (a.0 ∷ []) ∙ rw (i.exact on, row_narrow (k + 15) before a.0 size (sym (rule ∙ rw on) ∙ rule_passed line x told));
+            kept = λ on. (each_next row_refusal [] i.rows a.0).1 (i.kept on, sym (none ∙ rw on));
+            way = λ t l. due t l ∙ line_passed ranges line (table (tabled t l i.rows)) (drop at s) g.has (good t l) none refl (next_rest s at a.1 g);
+          }
 
 -- all are read
 pub rows_done : {ranges : Bool} {first : ℕ} {s : List ℕ} {array : List (List ℕ)} {line at k before : ℕ} (i : RowsRead ranges first s array line at k before) → 106 ≤ k → RowsDone ranges first s line at array

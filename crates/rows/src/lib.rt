@@ -1,115 +1,84 @@
 // The table, RULES section 3: a row for each age from 15 to 120.
 #![tactic(auto)]
 
-ghost use Rattle.std.specs.Prelude.{◌≡◌, map, ℕ, ◌≤◌};
-ghost use Rattle.fields.specs.declared.Line.TheVariants.{Good};
-ghost use Rattle.fields.specs.Split.{upto_of};
+ghost use Rattle.std.specs.Prelude.{◌≡◌, map, ◌≤◌};
 ghost use Rattle.fields.specs.Values.{line_of};
+ghost use Rattle.rules.specs.Refusals.{verdict};
 ghost use Rattle.rules.specs.Rules.{first_among};
 ghost use Rattle.row_rules.specs.Table.{row_rules, row_numbers};
 ghost use Rattle.walk.specs.Settled.{settled};
 ghost use Rattle.walk.specs.Lines.{row_form};
-ghost use Rattle.rows.specs.Narrow.{four_of, RowHeld, narrow_of};
+ghost use Rattle.rows.specs.Narrow.{narrow_of};
 ghost use Rattle.rows.specs.Stretch.{RowsAre};
 
-use fields::text::from;
-use fields::{Line, Read};
+use fields::{Fault, Line};
 use rates::{AGES, FIRST_AGE, Rows};
 use row_rules::{Row, row_rule};
-use rules::refusals::{CUT_OFF, PLAN_FORM};
-use stretches::Stretch;
-use values::five_values;
+use rules::refusals::{Refusal, Refused};
+use stretches::{Next, at_line, plan_line};
+use values::whole_values;
 
-// The line of an age's row. Where its form is right its age and its four numbers are written to `values`.
-fn row_line(s: &[u8], age: u64, values: &mut Read) -> Line
-    ensures value { result ≡ line_of (row_form age) s.now }
-    ensures by_index { (e : ℕ) → result ≡ Good e → RowHeld (row_form age (upto_of 10 s.now)) values.new }
+// The line of an age's row: the four numbers after the age.
+fn row_line(s: &[u8], age: u64) -> Line<4>
+    ensures { result ≡ line_of (row_form age) s.now }
 {
-    match five_values(s, b"row=", values) {
-        Line::Good(e) => {
-            if values[0] == age {
-                Line::Good(e)
-            } else {
-                Line::Wrong
-            }
-        }
-        Line::Wrong => Line::Wrong,
-        Line::Cut => Line::Cut,
+    let (values, end) = whole_values::<5>(s, b"row=")?;
+    let [due, death, withdrawal, disability, weight] = values;
+    if due != age {
+        return Err(Fault::Wrong);
     }
+    Ok(([death, withdrawal, disability, weight], end))
 }
 
-// The range rules of a row where the ranges are settled: a number, 0 for none.
-fn row_refusal(ranges: bool, age: usize, before: u64, values: &Read) -> u64
-    ensures { result ≡ settled ranges (first_among (row_rules age before (row_numbers (four_of values.now)))) }
+// The range rules of a row, where the ranges are settled.
+fn row_refusal(ranges: bool, age: usize, before: u64, numbers: [u64; 4]) -> Result<(), Refusal>
+    ensures { verdict result ≡ settled ranges (first_among (row_rules age before (row_numbers numbers))) }
 {
-    if ranges {
-        let row = Row {
-            death: values[1],
-            withdrawal: values[2],
-            disability: values[3],
-            weight: values[4],
-        };
-        row_rule(age, before, row)
-    } else {
-        0
+    if !ranges {
+        return Ok(());
     }
+    let [death, withdrawal, disability, weight] = numbers;
+    let row = Row {
+        death,
+        withdrawal,
+        disability,
+        weight,
+    };
+    row_rule(age, before, row)
 }
 
 // A number in 32 bits; a larger one becomes the largest. Where the ranges are settled no number is larger.
 fn narrow(x: u64) -> u32
     ensures { result ≡ narrow_of x }
 {
-    if x < 4_294_967_295 {
-        x as u32
-    } else {
-        4_294_967_295
-    }
+    x.min(u64::from(u32::MAX)) as u32
 }
 
-fn narrow_row(values: &Read) -> [u32; 4]
-    ensures { result ≡ map narrow_of (four_of values.now) }
+fn narrow_row(numbers: [u64; 4]) -> [u32; 4]
+    ensures { result ≡ map narrow_of numbers }
 {
-    [
-        narrow(values[1]),
-        narrow(values[2]),
-        narrow(values[3]),
-        narrow(values[4]),
-    ]
+    numbers.map(narrow)
 }
 
 // Reads the rows from a line on, up to the first that is refused, and settles their ranges too where that is asked for.
 // After a refusal the table is left open.
-pub fn row_lines(s: &[u8], first: u64, ranges: bool, rows: &mut Rows) -> Stretch
+pub fn row_lines(s: &[u8], first: u64, ranges: bool, rows: &mut Rows) -> Result<Next, Refused>
     requires { first ≤ 65536 }
     ensures { RowsAre ranges first s.now result rows.new }
 {
     // Nothing that the caller left there is taken for a row.
-    *rows = [[0u32; 4]; AGES];
-    let mut values = [0u64; 5];
+    *rows = [[0; 4]; AGES];
     let mut line = first;
     let mut at = 0;
-    let mut k: usize = 0;
-    let mut before: u64 = 0;
-    while k < AGES {
-        match row_line(from(s, at), k as u64 + FIRST_AGE as u64, &mut values) {
-            Line::Good(e) => {
-                let refusal = row_refusal(ranges, k + FIRST_AGE, before, &values);
-                if refusal != 0 {
-                    return Stretch::Refused(refusal, line);
-                }
-                rows[k] = narrow_row(&values);
-                before = values[4];
-                at += e + 1;
-            }
-            Line::Wrong => {
-                return Stretch::Refused(PLAN_FORM, line);
-            }
-            Line::Cut => {
-                return Stretch::Refused(CUT_OFF, line);
-            }
-        }
+    let mut before = 0;
+    for k in 0..AGES {
+        let age = k + FIRST_AGE;
+        let (numbers, end) = plan_line(row_line(&s[at..], age as u64), line)?;
+        at_line(row_refusal(ranges, age, before, numbers), line)?;
+        rows[k] = narrow_row(numbers);
+        before = numbers[3];
         line += 1;
-        k += 1;
+        at += end + 1;
     }
-    Stretch::Done(line, at)
+    Ok(Next { line, at })
 }

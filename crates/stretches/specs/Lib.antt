@@ -1,3 +1,4 @@
--- What stands before a part of the walk, and the arrays that the parts fill.
+-- What stands before a part of the walk, the arrays that the parts fill, and how they refuse.
 pub mod Heads
 pub mod Arrays
+pub mod Refusing

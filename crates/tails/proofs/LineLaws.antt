@@ -1,171 +1,158 @@
--- A line after the rows: what the code reads of it is what the walk reads of it.
-use Prim.Native.Nat.{ℕ, ◌≤◌, ◌<◌}
+-- A line after the rows, from the answers of the readers; and what such an answer says of the bytes.
+use Prim.Native.Nat.{ℕ}
 use mathlib.Core.Path.{◌≡◌, refl, sym, ap, ◌∙◌}
 use mathlib.Core.List.{List}
+use lib.ListN.{get_or}
 use mathlib.Core.Bool.{Bool, true, false, cond}
-use lib.ListN.{length, get_or, take, drop}
-use lib.Seq.{get_or-take}
-use native.Mathlib.Omega.{arith}
-use Rattle.fields.specs.declared.Line.{Line}
-use Rattle.fields.specs.declared.Line.TheVariants.{Good, Wrong, Cut}
+use Rattle.std.specs.Prelude.{Result, Ok, Err}
+use Rattle.std.specs.Result.{IsErrAnd}
+use Rattle.fields.specs.declared.Fault.{Fault}
+use Rattle.fields.specs.declared.Fault.TheVariants.{Wrong, Cut as FaultCut}
 use Rattle.fields.specs.Text.{bytes}
 use Rattle.fields.specs.Split.{seek_of, has_of, upto_of, starts_of}
-use Rattle.fields.specs.Numbers.{Number, whole_of, amount_of}
-use Rattle.fields.specs.Values.{Values, Held, found, misread, values_of, keyed_of}
-use Rattle.fields.proofs.SplitLaws.{has_line, has_none}
+use Rattle.fields.specs.Numbers.{whole_of, amount_of}
+use Rattle.fields.specs.Values.{Values, found, misread, keyed_of, line_of}
 use Rattle.fields.proofs.KeyLaws.{starts_line}
-use Rattle.fields.proofs.AnswerLaws.{GoodLine, good_line, is_good, is_wrong, is_cut, Answers}
+use Rattle.fields.proofs.AnswerLaws.{GoodLine, good_line, is_good, is_wrong, is_cut}
+use Rattle.plan.specs.declared.Member.{Member}
 use Rattle.plan.specs.Numbers.{member_from}
-use Rattle.walk.specs.Lines.{Tail, listed, end, surplus, neither, listed_made, end_made, tail_of}
-use Rattle.tails.specs.declared.Kind.TheVariants.{Listed, End, Surplus, Neither, Cut as CutOff}
-use Rattle.tails.specs.declared.Kind.{Kind}
-use Rattle.tails.specs.Tails.{kind_at, kind_of, TailHeld}
+use Rattle.walk.specs.Lines.{Tail as Line, listed, end, surplus, neither, listed_made, end_made, tail_of}
+use Rattle.tails.specs.declared.Tail.{Tail}
+use Rattle.tails.specs.declared.Tail.TheVariants.{Listed, End}
+use Rattle.tails.specs.declared.TailFault.{TailFault}
+use Rattle.tails.specs.declared.TailFault.TheVariants.{Surplus, Neither, Cut}
+use Rattle.tails.specs.Tails.{kind_at, kind_of, fault_of, surplus_of}
 
-abbrev TailAnswers : (full : Bool) → List ℕ → Kind → List ℕ → Type 0
-TailAnswers full s r values = (r ≡ kind_of full s) × TailHeld full s r values
+-- an error of which one thing is known
+pub err_is : {A : Type 0} (r : Result A TailFault) (f : TailFault) → IsErrAnd r (λ g. g ≡ f) → r ≡ Err f
+err_is (Ok a) f is = absurd is
+err_is (Err g) f is = ap Err is
 
-module _ (full : Bool) (s values : List ℕ) where
-  kind_cut : has_of 10 s ≡ false → TailAnswers full s CutOff values
+-- ---- from what was read of the line
+module _ (full : Bool) (s : List ℕ) (holds : List ℕ → Values) (made : Values → Line) (way : tail_of full (upto_of 10 s) ≡ made (holds (upto_of 10 s))) {r : Result (List ℕ × ℕ) Fault} (read : r ≡ line_of holds s) where
+  made_read : {a : List ℕ × ℕ} → r ≡ Ok a → kind_at (made (found a.0)) a.1 ≡ kind_of full s
   unfolding kind_of
-  kind_cut none =
-      (rw none, record { member = λ e is. let z : ◌≡◌ {A = ℕ} 0 1 = cc in absurd (omega arith); count = λ e is. let z : ◌≡◌ {A = ℕ} 0 1 = cc in absurd (omega arith) })
+  made_read is = let g = is_good holds s read is in rw (g.line.has, way, g.is, g.line.place)
 
-  module _ (has : has_of 10 s ≡ true) where
-    kind_is : {x : Tail} → tail_of full (upto_of 10 s) ≡ x → kind_at x (seek_of 10 s) ≡ kind_of full s
-    unfolding kind_of
-    kind_is is = rw (has, is)
+  made_fault : made misread ≡ neither → (f : Fault) → r ≡ Err f → Err (fault_of f) ≡ kind_of full s
+  unfolding kind_of
+  made_fault bad Wrong is = let w = is_wrong holds s read is in rw (w.0, way, w.1, bad)
+  made_fault bad FaultCut is = rw (is_cut holds s read is)
 
-    kind_listed : {e : ℕ} → e ≡ seek_of 10 s → tail_of full (upto_of 10 s) ≡ listed (member_from values) → length values ≡ 5 → TailAnswers full s (Listed e) values
-    kind_listed place is size =
-        (ap Listed place ∙ kind_is is, record { member = λ e same. (is, size); count = λ e same. let z : ◌≡◌ {A = ℕ} 0 1 = cc in absurd (omega arith) })
+module _ (s : List ℕ) {b : Bool} (tested : b ≡ starts_of (bytes "member=") s) where
+  key : {t : Bool} → b ≡ t → starts_of (bytes "member=") (upto_of 10 s) ≡ t
+  key is = starts_line (bytes "member=") s refl ∙ sym tested ∙ is
 
-    kind_end : {e : ℕ} → e ≡ seek_of 10 s → tail_of full (upto_of 10 s) ≡ end (get_or values 0 0) → length values ≡ 5 → TailAnswers full s (End e) values
-    kind_end place is size =
-        (ap End place ∙ kind_is is, record { member = λ e same. let z : ◌≡◌ {A = ℕ} 0 1 = cc in absurd (omega arith); count = λ e same. (is, size) })
+  -- a member
+  module _ {full : Bool} (on : b ≡ true) (room : full ≡ false) {r : Result (List ℕ × ℕ) Fault} (read : r ≡ line_of (keyed_of (bytes "member=") amount_of 4) s) where
+    member_way : tail_of full (upto_of 10 s) ≡ listed_made (keyed_of (bytes "member=") amount_of 4 (upto_of 10 s))
+    unfolding tail_of
+    member_way = rw (key on, room)
 
-    kind_surplus : tail_of full (upto_of 10 s) ≡ surplus → TailAnswers full s Surplus values
-    kind_surplus is =
-        (kind_is is, record { member = λ e same. let z : ◌≡◌ {A = ℕ} 0 1 = cc in absurd (omega arith); count = λ e same. let z : ◌≡◌ {A = ℕ} 0 1 = cc in absurd (omega arith) })
+    pub member_read : {a : List ℕ × ℕ} {m : Member} → r ≡ Ok a → m ≡ member_from a.0 → Ok (Listed m, a.1) ≡ kind_of full s
+    member_read {a} is of = ap (λ (m : Member). Ok (Listed m, a.1)) of ∙ made_read full s (keyed_of (bytes "member=") amount_of 4) listed_made member_way read is
 
-    kind_neither : tail_of full (upto_of 10 s) ≡ neither → TailAnswers full s Neither values
-    kind_neither is =
-        (kind_is is, record { member = λ e same. let z : ◌≡◌ {A = ℕ} 0 1 = cc in absurd (omega arith); count = λ e same. let z : ◌≡◌ {A = ℕ} 0 1 = cc in absurd (omega arith) })
+    pub member_fault : {f : Fault} → r ≡ Err f → Err (fault_of f) ≡ kind_of full s
+    member_fault {f} is = made_fault full s (keyed_of (bytes "member=") amount_of 4) listed_made member_way read refl f is
 
--- one member too many
-module _ (s values : List ℕ) {b : Bool} (tested : b ≡ starts_of (bytes "member=") s) (on : b ≡ true) {e : ℕ} (at : e ≡ seek_of 10 s) where
-  pub surplus_line : e < length s → TailAnswers true s Surplus values
-  unfolding tail_of
-  surplus_line h =
-      kind_surplus true s values (has_line s at h) (rw (starts_line (bytes "member=") s refl ∙ sym tested ∙ on))
+  -- the end
+  module _ (full : Bool) (off : b ≡ false) {r : Result (List ℕ × ℕ) Fault} (read : r ≡ line_of (keyed_of (bytes "end=") whole_of 0) s) where
+    end_way : tail_of full (upto_of 10 s) ≡ end_made (keyed_of (bytes "end=") whole_of 0 (upto_of 10 s))
+    unfolding tail_of
+    end_way = rw (key off)
 
-  pub surplus_cut : length s ≤ e → TailAnswers true s CutOff values
-  surplus_cut h = kind_cut true s values (has_none s at h)
+    pub end_read : {a : List ℕ × ℕ} → r ≡ Ok a → Ok (End (get_or a.0 0 0), a.1) ≡ kind_of full s
+    end_read is = made_read full s (keyed_of (bytes "end=") whole_of 0) end_made end_way read is
 
--- a member
-starts_of_lem : (key : List ℕ) (last : List ℕ → Number) (n : ℕ) (l : List ℕ) {vs : List ℕ} → keyed_of key last n l ≡ found vs → starts_of key l ≡ true
-unfolding keyed_of
-starts_of_lem key last n l {vs} is = pick (starts_of key l) (values_of last n (drop (length key) l)) is
-  where
-    pick : (b : Bool) (x : Values) → cond b x misread ≡ found vs → b ≡ true
-    pick true x e = refl
-    pick false x e = let z : ◌≡◌ {A = ℕ} 0 1 = cc in absurd (omega arith)
+    pub end_fault : {f : Fault} → r ≡ Err f → Err (fault_of f) ≡ kind_of full s
+    end_fault {f} is = made_fault full s (keyed_of (bytes "end=") whole_of 0) end_made end_way read refl f is
 
-module _ (full : Bool) (s values : List ℕ) {r : Line} (room : full ≡ false) (read : Answers (keyed_of (bytes "member=") amount_of 4) s r (Held (keyed_of (bytes "member=") amount_of 4 (upto_of 10 s)) 4 values)) where
-  member_is : {x : Values} → starts_of (bytes "member=") (upto_of 10 s) ≡ true → keyed_of (bytes "member=") amount_of 4 (upto_of 10 s) ≡ x → tail_of full (upto_of 10 s) ≡ listed_made x
-  unfolding tail_of
-  member_is on is = rw (on, room, is)
+  -- one more than 1,000
+  pub surplus_line : {full : Bool} {f : TailFault} → b ≡ true → full ≡ true → f ≡ surplus_of s → Err f ≡ kind_of full s
+  unfolding kind_of tail_of
+  surplus_line {full} {f} on more is = is_surplus (has_of 10 s) refl
+    where
+      is_surplus : (h : Bool) → has_of 10 s ≡ h → Err f ≡ kind_of full s
+      is_surplus true has = rw (is, has, key on, more)
+      is_surplus false none = rw (is, none)
 
-  first_five : member_from (take 5 values) ≡ member_from values
-  first_five =
-      rw (get_or-take 5 values 0 0 (omega arith), get_or-take 5 values 1 0 (omega arith), get_or-take 5 values 2 0 (omega arith), get_or-take 5 values 3 0 (omega arith), get_or-take 5 values 4 0 (omega arith))
+-- ---- what such an answer says: of a member, or the end
+same_member : {m o : Member} → Listed m ≡ Listed o → listed o ≡ listed m
+same_member is = cc
 
-  pub member_good : {e : ℕ} → r ≡ Good e → TailAnswers full s (Listed e) values
-  member_good {e} is =
-      let g = is_good (keyed_of (bytes "member=") amount_of 4) s read.0 is in
-      let h = read.1 e is in
-      kind_listed full s values g.has g.place (member_is (starts_of_lem (bytes "member=") amount_of 4 (upto_of 10 s) h.is) h.is ∙ ap listed first_five) h.size
+same_count : {n k : ℕ} → End n ≡ End k → end k ≡ end n
+same_count is = cc
 
-  pub member_wrong : {b : Bool} → r ≡ Wrong → b ≡ starts_of (bytes "member=") s → b ≡ true → TailAnswers full s Neither values
-  member_wrong is tested on =
-      let w = is_wrong (keyed_of (bytes "member=") amount_of 4) s read.0 is in
-      kind_neither full s values w.0 (member_is (starts_line (bytes "member=") s refl ∙ sym tested ∙ on) w.1)
+not_both : {m : Member} {n : ℕ} → Listed m ≡ End n → ⊥
+not_both is = cc
 
-  pub member_cut : r ≡ Cut → TailAnswers full s CutOff values
-  member_cut is = kind_cut full s values (is_cut (keyed_of (bytes "member=") amount_of 4) s read.0 is)
+pub record TailLine (full : Bool) (s : List ℕ) (line : Line) (e : ℕ) : Type 0 where
+  pub good : GoodLine s e
+  pub is : tail_of full (upto_of 10 s) ≡ line
 
--- the end
-module _ (full : Bool) (s values : List ℕ) (off_key : starts_of (bytes "member=") s ≡ false) {r : Line} (read : Answers (keyed_of (bytes "end=") whole_of 0) s r (Held (keyed_of (bytes "end=") whole_of 0 (upto_of 10 s)) 0 values)) where
-  end_is : {x : Values} → keyed_of (bytes "end=") whole_of 0 (upto_of 10 s) ≡ x → tail_of full (upto_of 10 s) ≡ end_made x
-  unfolding tail_of
-  end_is is = rw (starts_line (bytes "member=") s refl ∙ off_key, is)
-
-  pub end_good : {e : ℕ} → r ≡ Good e → TailAnswers full s (End e) values
-  end_good {e} is =
-      let g = is_good (keyed_of (bytes "end=") whole_of 0) s read.0 is in
-      let h = read.1 e is in
-      kind_end full s values g.has g.place (end_is h.is ∙ ap end (get_or-take 1 values 0 0 (omega arith))) h.size
-
-  pub end_wrong : r ≡ Wrong → TailAnswers full s Neither values
-  end_wrong is =
-      let w = is_wrong (keyed_of (bytes "end=") whole_of 0) s read.0 is in
-      kind_neither full s values w.0 (end_is w.1)
-
-  pub end_cut : r ≡ Cut → TailAnswers full s CutOff values
-  end_cut is = kind_cut full s values (is_cut (keyed_of (bytes "end=") whole_of 0) s read.0 is)
-
--- ---- what such an answer says
-module _ (full : Bool) (s : List ℕ) {r : Kind} (answered : r ≡ kind_of full s) where
-  pub tail_cut : r ≡ CutOff → has_of 10 s ≡ false
+module _ (full : Bool) (s : List ℕ) {r : Result (Tail × ℕ) TailFault} (answered : r ≡ kind_of full s) where
+  pub tail_cut : r ≡ Err Cut → has_of 10 s ≡ false
   unfolding kind_of
   tail_cut is = pick (has_of 10 s) (tail_of full (upto_of 10 s)) (sym is ∙ answered)
     where
-      pick : (h : Bool) (x : Tail) → CutOff ≡ cond h (kind_at x (seek_of 10 s)) CutOff → h ≡ false
-      pick true (listed m) e = let z : ◌≡◌ {A = ℕ} 0 1 = cc in absurd (omega arith)
-      pick true (end n) e = let z : ◌≡◌ {A = ℕ} 0 1 = cc in absurd (omega arith)
-      pick true surplus e = let z : ◌≡◌ {A = ℕ} 0 1 = cc in absurd (omega arith)
-      pick true neither e = let z : ◌≡◌ {A = ℕ} 0 1 = cc in absurd (omega arith)
+      pick : (h : Bool) (x : Line) → Err Cut ≡ cond h (kind_at x (seek_of 10 s)) (Err Cut) → h ≡ false
+      pick true (listed m) e = cc
+      pick true (end n) e = cc
+      pick true surplus e = cc
+      pick true neither e = cc
       pick false x e = refl
 
-  pub tail_surplus : r ≡ Surplus → (has_of 10 s ≡ true) × (tail_of full (upto_of 10 s) ≡ surplus)
+  pub tail_surplus : r ≡ Err Surplus → (has_of 10 s ≡ true) × (tail_of full (upto_of 10 s) ≡ surplus)
   unfolding kind_of
   tail_surplus is = pick (has_of 10 s) (tail_of full (upto_of 10 s)) (sym is ∙ answered)
     where
-      pick : (h : Bool) (x : Tail) → Surplus ≡ cond h (kind_at x (seek_of 10 s)) CutOff → (h ≡ true) × (x ≡ surplus)
-      pick true (listed m) e = let z : ◌≡◌ {A = ℕ} 0 1 = cc in absurd (omega arith)
-      pick true (end n) e = let z : ◌≡◌ {A = ℕ} 0 1 = cc in absurd (omega arith)
+      pick : (h : Bool) (x : Line) → Err Surplus ≡ cond h (kind_at x (seek_of 10 s)) (Err Cut) → (h ≡ true) × (x ≡ surplus)
+      pick true (listed m) e = absurd (cc)
+      pick true (end n) e = absurd (cc)
       pick true surplus e = (refl, refl)
-      pick true neither e = let z : ◌≡◌ {A = ℕ} 0 1 = cc in absurd (omega arith)
-      pick false x e = let z : ◌≡◌ {A = ℕ} 0 1 = cc in absurd (omega arith)
+      pick true neither e = absurd (cc)
+      pick false x e = absurd (cc)
 
-  pub tail_neither : r ≡ Neither → (has_of 10 s ≡ true) × (tail_of full (upto_of 10 s) ≡ neither)
+  pub tail_neither : r ≡ Err Neither → (has_of 10 s ≡ true) × (tail_of full (upto_of 10 s) ≡ neither)
   unfolding kind_of
   tail_neither is = pick (has_of 10 s) (tail_of full (upto_of 10 s)) (sym is ∙ answered)
     where
-      pick : (h : Bool) (x : Tail) → Neither ≡ cond h (kind_at x (seek_of 10 s)) CutOff → (h ≡ true) × (x ≡ neither)
-      pick true (listed m) e = let z : ◌≡◌ {A = ℕ} 0 1 = cc in absurd (omega arith)
-      pick true (end n) e = let z : ◌≡◌ {A = ℕ} 0 1 = cc in absurd (omega arith)
-      pick true surplus e = let z : ◌≡◌ {A = ℕ} 0 1 = cc in absurd (omega arith)
+      pick : (h : Bool) (x : Line) → Err Neither ≡ cond h (kind_at x (seek_of 10 s)) (Err Cut) → (h ≡ true) × (x ≡ neither)
+      pick true (listed m) e = absurd (cc)
+      pick true (end n) e = absurd (cc)
+      pick true surplus e = absurd (cc)
       pick true neither e = (refl, refl)
-      pick false x e = let z : ◌≡◌ {A = ℕ} 0 1 = cc in absurd (omega arith)
+      pick false x e = absurd (cc)
 
-  pub tail_listed : {e : ℕ} → r ≡ Listed e → GoodLine s e
+  pub tail_listed : {m : Member} {e : ℕ} → r ≡ Ok (Listed m, e) → TailLine full s (listed m) e
   unfolding kind_of
-  tail_listed {e} is = let p = pick (has_of 10 s) (tail_of full (upto_of 10 s)) (sym is ∙ answered) in good_line s p.0 p.1
+  tail_listed {m} {e} is = let p = pick (has_of 10 s) (tail_of full (upto_of 10 s)) (sym is ∙ answered) in record { good = good_line s p.0 p.1; is = p.2 }
     where
-      pick : (h : Bool) (x : Tail) → Listed e ≡ cond h (kind_at x (seek_of 10 s)) CutOff → (h ≡ true) × (e ≡ seek_of 10 s)
-      pick true (listed m) is = (refl, (cc))
-      pick true (end n) is = let z : ◌≡◌ {A = ℕ} 0 1 = cc in absurd (omega arith)
-      pick true surplus is = let z : ◌≡◌ {A = ℕ} 0 1 = cc in absurd (omega arith)
-      pick true neither is = let z : ◌≡◌ {A = ℕ} 0 1 = cc in absurd (omega arith)
-      pick false x is = let z : ◌≡◌ {A = ℕ} 0 1 = cc in absurd (omega arith)
+      pick : (h : Bool) (x : Line) → Ok (Listed m, e) ≡ cond h (kind_at x (seek_of 10 s)) (Err Cut) → (h ≡ true) × (e ≡ seek_of 10 s) × (x ≡ listed m)
+      pick true (listed o) q = let same : (Listed m, e) ≡ (Listed o, seek_of 10 s) = cc in (refl, ap (λ (p : Tail × ℕ). p.1) same, same_member (ap (λ (p : Tail × ℕ). p.0) same))
+      pick true (end n) q = let same : (Listed m, e) ≡ (End n, seek_of 10 s) = cc in absurd (not_both (ap (λ (p : Tail × ℕ). p.0) same))
+      pick true surplus q = absurd (cc)
+      pick true neither q = absurd (cc)
+      pick false x q = absurd (cc)
 
-  pub tail_end : {e : ℕ} → r ≡ End e → GoodLine s e
+  pub tail_end : {n e : ℕ} → r ≡ Ok (End n, e) → TailLine full s (end n) e
   unfolding kind_of
-  tail_end {e} is = let p = pick (has_of 10 s) (tail_of full (upto_of 10 s)) (sym is ∙ answered) in good_line s p.0 p.1
+  tail_end {n} {e} is = let p = pick (has_of 10 s) (tail_of full (upto_of 10 s)) (sym is ∙ answered) in record { good = good_line s p.0 p.1; is = p.2 }
     where
-      pick : (h : Bool) (x : Tail) → End e ≡ cond h (kind_at x (seek_of 10 s)) CutOff → (h ≡ true) × (e ≡ seek_of 10 s)
-      pick true (listed m) is = let z : ◌≡◌ {A = ℕ} 0 1 = cc in absurd (omega arith)
-      pick true (end n) is = (refl, (cc))
-      pick true surplus is = let z : ◌≡◌ {A = ℕ} 0 1 = cc in absurd (omega arith)
-      pick true neither is = let z : ◌≡◌ {A = ℕ} 0 1 = cc in absurd (omega arith)
-      pick false x is = let z : ◌≡◌ {A = ℕ} 0 1 = cc in absurd (omega arith)
+      pick : (h : Bool) (x : Line) → Ok (End n, e) ≡ cond h (kind_at x (seek_of 10 s)) (Err Cut) → (h ≡ true) × (e ≡ seek_of 10 s) × (x ≡ end n)
+      pick true (listed m) q = let same : (End n, e) ≡ (Listed m, seek_of 10 s) = cc in absurd (not_both (sym (ap (λ (p : Tail × ℕ). p.0) same)))
+      pick true (end k) q = let same : (End n, e) ≡ (End k, seek_of 10 s) = cc in (refl, ap (λ (p : Tail × ℕ). p.1) same, same_count (ap (λ (p : Tail × ℕ). p.0) same))
+      pick true surplus q = absurd (cc)
+      pick true neither q = absurd (cc)
+      pick false x q = absurd (cc)
+
+  pub tail_good : {a : Tail × ℕ} → r ≡ Ok a → GoodLine s a.1
+  unfolding kind_of
+  tail_good {a} is = let p = pick (has_of 10 s) (tail_of full (upto_of 10 s)) (sym is ∙ answered) in good_line s p.0 p.1
+    where
+      pick : (h : Bool) (x : Line) → Ok a ≡ cond h (kind_at x (seek_of 10 s)) (Err Cut) → (h ≡ true) × (a.1 ≡ seek_of 10 s)
+      pick true (listed m) q = let same : a ≡ (Listed m, seek_of 10 s) = cc in (refl, ap (λ (p : Tail × ℕ). p.1) same)
+      pick true (end n) q = let same : a ≡ (End n, seek_of 10 s) = cc in (refl, ap (λ (p : Tail × ℕ). p.1) same)
+      pick true surplus q = absurd (cc)
+      pick true neither q = absurd (cc)
+      pick false x q = absurd (cc)

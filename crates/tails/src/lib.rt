@@ -2,86 +2,62 @@
 // members goes from line to line.
 #![tactic(auto)]
 
-ghost use Rattle.std.specs.Prelude.{◌≡◌, true, false};
-ghost use Rattle.fields.specs.Text.{bytes};
-ghost use Rattle.fields.specs.Split.{starts_of};
-ghost use Rattle.plan.specs.Numbers.{member_from};
-ghost use Rattle.tails.specs.Tails.{kind_of, TailHeld};
+ghost use Rattle.std.specs.Prelude.{◌≡◌};
+ghost use Rattle.tails.specs.Tails.{kind_of, fault_of, surplus_of};
 
-use fields::text::{seek, starts};
-use fields::{Line, Read};
+use fields::Fault;
 use plan::Member;
-use values::{four_and_amount, one_value};
+use values::{values_to_amount, whole_values};
 
-// What kind of line stands after the rows: a member or the end, with the place of its byte 10; or one of three faults.
+// A line after the rows that is right in its form: a member's, or the end's with its count.
 #[derive(Clone, Copy)]
-pub enum Kind {
-    Listed(usize),
-    End(usize),
+pub enum Tail {
+    Listed(Member),
+    End(u64),
+}
+
+// Why a line after the rows is refused: it is a member's when the members are full; it is neither a member's nor the
+// end's; or it is cut off.
+#[derive(Clone, Copy)]
+pub enum TailFault {
     Surplus,
     Neither,
     Cut,
 }
 
-// A line after the rows. When the members are full one more is a surplus (refusal 27). Where the form is right a
-// member's id, person, entry age, age and salary, or the end line's count, are written to the front of `values`.
-pub fn tail_line(s: &[u8], full: bool, values: &mut Read) -> Kind
-    ensures value { result ≡ kind_of full s.now }
-    ensures tail_held { TailHeld full s.now result values.new }
+impl From<Fault> for TailFault {
+    ghost from_gives = { λ fault result. result ≡ fault_of fault };
+
+    fn from(fault: Fault) -> TailFault {
+        match fault {
+            Fault::Wrong => TailFault::Neither,
+            Fault::Cut => TailFault::Cut,
+        }
+    }
+}
+
+// A line after the rows, with the place of its byte 10. When the members are full one more is a surplus (refusal 27).
+pub fn tail_line(s: &[u8], full: bool) -> Result<(Tail, usize), TailFault>
+    ensures { result ≡ kind_of full s.now }
 {
+    if !s.starts_with(b"member=") {
+        let (values, end) = whole_values::<1>(s, b"end=")?;
+        return Ok((Tail::End(values[0]), end));
+    }
     if full {
-        return full_line(s, values);
+        return Err(surplus(s));
     }
-    match four_and_amount(s, b"member=", values) {
-        Line::Good(e) => Kind::Listed(e),
-        Line::Wrong => {
-            if starts(s, b"member=") {
-                Kind::Neither
-            } else {
-                end_line(s, full, values)
-            }
-        }
-        Line::Cut => Kind::Cut,
-    }
+    let (values, end) = values_to_amount::<5>(s, b"member=")?;
+    Ok((Tail::Listed(Member::from(values)), end))
 }
 
-// A line after 1,000 members.
-fn full_line(s: &[u8], values: &mut Read) -> Kind
-    ensures value { result ≡ kind_of true s.now }
-    ensures tail_held { TailHeld true s.now result values.new }
+// A member's line after 1,000 members, however it goes on.
+fn surplus(s: &[u8]) -> TailFault
+    ensures { result ≡ surplus_of s.now }
 {
-    if starts(s, b"member=") {
-        if seek(s, 10) < s.len() {
-            Kind::Surplus
-        } else {
-            Kind::Cut
-        }
+    if s.contains(&10) {
+        TailFault::Surplus
     } else {
-        end_line(s, true, values)
-    }
-}
-
-// A line that doesn't begin as a member's.
-fn end_line(s: &[u8], full: bool, values: &mut Read) -> Kind
-    requires { starts_of (bytes "member=") s.now ≡ false }
-    ensures value { result ≡ kind_of full s.now }
-    ensures tail_held { TailHeld full s.now result values.new }
-{
-    match one_value(s, b"end=", false, values) {
-        Line::Good(e) => Kind::End(e),
-        Line::Wrong => Kind::Neither,
-        Line::Cut => Kind::Cut,
-    }
-}
-
-pub fn member_from(values: &Read) -> Member
-    ensures { result ≡ member_from values.now }
-{
-    Member {
-        id: values[0],
-        person: values[1],
-        entry: values[2],
-        age: values[3],
-        salary: values[4],
+        TailFault::Cut
     }
 }

@@ -1,123 +1,73 @@
-// A line of a key, whole numbers with a comma after each, and a last value. There are four kinds of them, and a function
-// for each: where the fields stand one after the other, in a function that one other calls, LLVM inlines them. It doesn't
-// where they are read in a loop, or where rows and members share a function.
+// A line of a key, whole numbers with a comma after each, and a last value.
 #![tactic(auto)]
 
-ghost use Rattle.std.specs.Prelude.{◌≡◌, false, cond, ℕ};
-ghost use Rattle.fields.specs.declared.Line.TheVariants.{Good, Wrong, Cut};
-ghost use Rattle.fields.specs.Split.{has_of, upto_of};
+ghost use Rattle.std.specs.Prelude.{◌≡◌, ◌-◌, ◌<◌, false, cond, nat_eq};
+ghost use Rattle.std.specs.List.{list_any};
+ghost use Rattle.fields.specs.declared.Fault.TheVariants.{Wrong, Cut};
 ghost use Rattle.fields.specs.Numbers.{whole_of, amount_of};
-ghost use Rattle.fields.specs.Values.{Held, keyed_of, last_of, line_of};
+ghost use Rattle.fields.specs.Split.{has_of};
+ghost use Rattle.fields.specs.Values.{keyed_of, last_of, line_of, values_at};
 
-use fields::numbers::{Field, amount_at, field_at, last_at};
-use fields::text::{seek, starts};
-use fields::{Line, Read};
+use fields::numbers::{field_at, last_at};
+use fields::{Fault, Line};
 
-// A line whose form is not right: it is wrong, or it is cut off.
-pub fn unread(s: &[u8]) -> Line
+// Why a line is not read whose form is not right: it is wrong, or it is cut off.
+pub fn unread(s: &[u8]) -> Fault
     ensures { result ≡ cond (has_of 10 s.now) Wrong Cut }
 {
-    if seek(s, 10) < s.len() {
-        Line::Wrong
+    if s.contains(&10) {
+        Fault::Wrong
     } else {
-        Line::Cut
+        Fault::Cut
     }
 }
 
-// The line that s begins with: the key, and a whole number or an amount. Where its form is right its value is written to
-// the front of `values`.
-pub fn one_value(s: &[u8], key: &[u8], amount: bool, values: &mut Read) -> Line
-    requires { has_of 10 key.now ≡ false }
-    ensures value { result ≡ line_of (keyed_of key.now (last_of amount) 0) s.now }
-    ensures by_index { (e : ℕ) → result ≡ Good e → Held (keyed_of key.now (last_of amount) 0 (upto_of 10 s.now)) 0 values.new }
+// N values from place i up to the first byte 10, and its place: whole numbers, of which the last may be an amount.
+fn values_at<const N: usize, const AMOUNT: bool>(s: &[u8], i: usize) -> Option<([u64; N], usize)>
+    requires { 0 < N }
+    ensures { result ≡ values_at (last_of AMOUNT) (N - 1) i s.now }
 {
-    if !starts(s, key) {
-        return unread(s);
+    let mut values = [0; N];
+    let mut at = i;
+    for k in 0..N - 1 {
+        let field = field_at(s, at, 44)?;
+        values[k] = field.value;
+        at = field.end + 1;
     }
-    let Field::Is(a, e) = last_at(s, key.len(), amount) else {
-        return unread(s);
-    };
-    *values = [a, 0, 0, 0, 0];
-    Line::Good(e)
+    let last = last_at(s, at, AMOUNT)?;
+    values[N - 1] = last.value;
+    Some((values, last.end))
 }
 
-// The same with four whole numbers and an amount.
-pub fn four_and_amount(s: &[u8], key: &[u8], values: &mut Read) -> Line
-    requires { has_of 10 key.now ≡ false }
-    ensures value { result ≡ line_of (keyed_of key.now amount_of 4) s.now }
-    ensures by_index { (e : ℕ) → result ≡ Good e → Held (keyed_of key.now amount_of 4 (upto_of 10 s.now)) 4 values.new }
+// The line that s begins with: the key, in which no byte is 10, and N values.
+fn line<const N: usize, const AMOUNT: bool>(s: &[u8], key: &[u8]) -> Line<N>
+    requires some { 0 < N }
+    requires key { list_any (λ x. nat_eq x 10) key.now ≡ false }
+    ensures { result ≡ line_of (keyed_of key.now (last_of AMOUNT) (N - 1)) s.now }
 {
-    if !starts(s, key) {
-        return unread(s);
+    if !s.starts_with(key) {
+        return Err(unread(s));
     }
-    let Field::Is(a, g) = field_at(s, key.len(), 44) else {
-        return unread(s);
-    };
-    let Field::Is(b, h) = field_at(s, g + 1, 44) else {
-        return unread(s);
-    };
-    let Field::Is(c, i) = field_at(s, h + 1, 44) else {
-        return unread(s);
-    };
-    let Field::Is(d, j) = field_at(s, i + 1, 44) else {
-        return unread(s);
-    };
-    let Field::Is(m, e) = amount_at(s, j + 1) else {
-        return unread(s);
-    };
-    *values = [a, b, c, d, m];
-    Line::Good(e)
+    match values_at::<N, AMOUNT>(s, key.len()) {
+        Some(read) => Ok(read),
+        None => Err(unread(s)),
+    }
 }
 
-// The same with four whole numbers.
-pub fn four_values(s: &[u8], key: &[u8], values: &mut Read) -> Line
-    requires { has_of 10 key.now ≡ false }
-    ensures value { result ≡ line_of (keyed_of key.now whole_of 3) s.now }
-    ensures by_index { (e : ℕ) → result ≡ Good e → Held (keyed_of key.now whole_of 3 (upto_of 10 s.now)) 3 values.new }
+// The line that s begins with: the key, and N whole numbers.
+pub fn whole_values<const N: usize>(s: &[u8], key: &[u8]) -> Line<N>
+    requires some { 0 < N }
+    requires key { list_any (λ x. nat_eq x 10) key.now ≡ false }
+    ensures { result ≡ line_of (keyed_of key.now whole_of (N - 1)) s.now }
 {
-    if !starts(s, key) {
-        return unread(s);
-    }
-    let Field::Is(a, h) = field_at(s, key.len(), 44) else {
-        return unread(s);
-    };
-    let Field::Is(b, i) = field_at(s, h + 1, 44) else {
-        return unread(s);
-    };
-    let Field::Is(c, j) = field_at(s, i + 1, 44) else {
-        return unread(s);
-    };
-    let Field::Is(d, e) = field_at(s, j + 1, 10) else {
-        return unread(s);
-    };
-    *values = [a, b, c, d, 0];
-    Line::Good(e)
+    line::<N, false>(s, key)
 }
 
-// The same with five whole numbers.
-pub fn five_values(s: &[u8], key: &[u8], values: &mut Read) -> Line
-    requires { has_of 10 key.now ≡ false }
-    ensures value { result ≡ line_of (keyed_of key.now whole_of 4) s.now }
-    ensures by_index { (e : ℕ) → result ≡ Good e → Held (keyed_of key.now whole_of 4 (upto_of 10 s.now)) 4 values.new }
+// The same, with an amount in the last place.
+pub fn values_to_amount<const N: usize>(s: &[u8], key: &[u8]) -> Line<N>
+    requires some { 0 < N }
+    requires key { list_any (λ x. nat_eq x 10) key.now ≡ false }
+    ensures { result ≡ line_of (keyed_of key.now amount_of (N - 1)) s.now }
 {
-    if !starts(s, key) {
-        return unread(s);
-    }
-    let Field::Is(a, h) = field_at(s, key.len(), 44) else {
-        return unread(s);
-    };
-    let Field::Is(b, i) = field_at(s, h + 1, 44) else {
-        return unread(s);
-    };
-    let Field::Is(c, j) = field_at(s, i + 1, 44) else {
-        return unread(s);
-    };
-    let Field::Is(d, k) = field_at(s, j + 1, 44) else {
-        return unread(s);
-    };
-    let Field::Is(f, e) = field_at(s, k + 1, 10) else {
-        return unread(s);
-    };
-    *values = [a, b, c, d, f];
-    Line::Good(e)
+    line::<N, true>(s, key)
 }

@@ -1,20 +1,19 @@
 -- Rule 12.4, what the parts promise together: the walk from the table on, and the whole walk.
-use Rattle.std.specs.Prelude.{ℕ, ◌≤◌, ◌≡◌, List, Bool, true, length, take}
+use Rattle.std.specs.Prelude.{ℕ, ◌≤◌, ◌≡◌, List, Bool, true, length, take, Result, Ok, Err}
 use Rattle.plan.specs.declared.Plan.{Plan}
 use Rattle.plan.specs.declared.Member.{Member}
 use Rattle.plan.specs.Numbers.{plan_from}
 use Rattle.amendments.specs.Force.{amendments_from}
 use Rattle.amendments.specs.Judging.{amendments_refusal}
+use Rattle.rules.specs.declared.refusals.Refused.{Refused}
+use Rattle.rules.specs.Refusals.{number}
 use Rattle.rules.specs.Outcome.{Outcome, values, refusal}
 use Rattle.walk.specs.Step.{Head, table}
 use Rattle.walk.specs.Walk.{Case, case_of, walk_from}
 use Rattle.stretches.specs.Heads.{tabled}
 use Rattle.amend_lines.specs.Array.{list_array}
-use Rattle.members.specs.declared.Count.{Count}
-use Rattle.members.specs.declared.Count.TheVariants.{Counted, Refused as CountRefused}
 use Rattle.members.specs.Array.{array_of}
-use Rattle.whole_walk.specs.declared.Walked.{Walked}
-use Rattle.whole_walk.specs.declared.Walked.TheVariants.{Whole, Refused}
+use Rattle.whole_walk.specs.declared.Outline.{Outline}
 
 -- the n amendments at the front of a list, which are accepted where the ranges are settled
 pub record ListKept (ranges : Bool) (terms : List ℕ) (list : List (List ℕ)) (n : ℕ) : Type 0 where
@@ -30,9 +29,9 @@ pub record TableDone (ranges : Bool) (h : Head) (first : ℕ) (s : List ℕ) (n 
   pub table : ranges ≡ true → array ≡ rows
   pub held : members ≡ array_of listed
 
-unfoldable pub TableIs : (ranges : Bool) → Head → (first : ℕ) → List ℕ → Count → (rows members : List (List ℕ)) → Type 0
-TableIs ranges h first s (Counted n) rows members = TableDone ranges h first s n rows members
-TableIs ranges h first s (CountRefused number line) rows members = walk_from ranges first (table h) s ≡ refusal number line
+unfoldable pub TableIs : (ranges : Bool) → Head → (first : ℕ) → List ℕ → Result ℕ Refused → (rows members : List (List ℕ)) → Type 0
+TableIs ranges h first s (Ok n) rows members = TableDone ranges h first s n rows members
+TableIs ranges h first s (Err refused) rows members = walk_from ranges first (table h) s ≡ refusal (number refused.refusal) refused.line
 
 -- the whole walk
 pub record WalkDone (ranges : Bool) (o : Outcome Case) (p : Plan) (k n : ℕ) (amendments rows members : List (List ℕ)) : Type 0 where
@@ -45,6 +44,6 @@ pub record WalkDone (ranges : Bool) (o : Outcome Case) (p : Plan) (k n : ℕ) (a
   pub table : ranges ≡ true → rows ≡ case.rows
   pub held : members ≡ array_of case.members
 
-unfoldable pub WalkIs : (ranges : Bool) → Outcome Case → Walked → (amendments rows members : List (List ℕ)) → Type 0
-WalkIs ranges o (Whole p k n) amendments rows members = WalkDone ranges o p k n amendments rows members
-WalkIs ranges o (Refused number line) amendments rows members = o ≡ refusal number line
+unfoldable pub WalkIs : (ranges : Bool) → Outcome Case → Result Outline Refused → (amendments rows members : List (List ℕ)) → Type 0
+WalkIs ranges o (Ok whole) amendments rows members = WalkDone ranges o whole.plan whole.amendments whole.members amendments rows members
+WalkIs ranges o (Err refused) amendments rows members = o ≡ refusal (number refused.refusal) refused.line

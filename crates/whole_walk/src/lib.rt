@@ -14,22 +14,19 @@ ghost use Rattle.whole_walk.specs.Stretch.{ListKept, TableIs, WalkIs};
 
 use amend_lines::amend_lines;
 use amending::as_valued;
-use fields::text::from;
 use heading::head_lines;
-use members::{Count, member_lines};
+use members::member_lines;
 use plan::{Members, Plan, TERMS, Terms};
 use rates::Rows;
 use rows::row_lines;
-use rules::refusals::TOO_LARGE;
-use rules::terms::plan_from;
-use stretches::Stretch;
+use rules::refusals::{Refusal, Refused};
 
-// What the walk gives: the plan with the heading's unit, and the counts of amendments and members; or the first refusal's number
-// and line.
+// What the walk gives: the plan with the heading's unit, and the counts of amendments and members.
 #[derive(Clone, Copy)]
-pub enum Walked {
-    Whole(Plan, u64, u64),
-    Refused(u64, u64),
+pub struct Outline {
+    pub plan: Plan,
+    pub amendments: u64,
+    pub members: u64,
 }
 
 // One walk over the lines, for their form alone or for their ranges too. The arrays are left open after a refusal, and
@@ -40,20 +37,17 @@ pub fn walk_lines(
     list: &mut [[u64; 4]],
     rows: &mut Rows,
     members: &mut Members,
-) -> Walked
+) -> Result<Outline, Refused>
     requires { list.old ≡ list_array [] }
     ensures { WalkIs ranges (walk_of ranges case.now) result list.new rows.new members.new }
 {
     if 65_536 < case.len() {
-        return Walked::Refused(TOO_LARGE, 0);
+        return Err(Refusal::TooLarge.at(0));
     }
-    let mut terms = [0u64; TERMS];
-    match head_lines(case, ranges, &mut terms) {
-        Stretch::Done(line, at) => {
-            walk_list(from(case, at), line, ranges, &terms, list, rows, members)
-        }
-        Stretch::Refused(number, line) => Walked::Refused(number, line),
-    }
+    let mut terms = [0; TERMS];
+    let next = head_lines(case, ranges, &mut terms)?;
+    let rest = &case[next.at..];
+    walk_list(rest, next.line, ranges, &terms, list, rows, members)
 }
 
 // The walk from the amendments on, after the terms. It leaves the arrays open where walk_lines does.
@@ -65,33 +59,25 @@ fn walk_list(
     list: &mut [[u64; 4]],
     rows: &mut Rows,
     members: &mut Members,
-) -> Walked
+) -> Result<Outline, Refused>
     requires { HeadKept ranges terms.now × (line ≤ 1000) × (list.old ≡ list_array []) }
     ensures { WalkIs ranges (walk_from ranges line (amending (headed terms.now)) s.now) result list.new rows.new members.new }
 {
-    let p = plan_from(terms);
-    match amend_lines(s, line, ranges, p, list) {
-        Stretch::Done(next, at) => {
-            let listed = next - line;
-            match walk_table(
-                from(s, at),
-                next,
-                ranges,
-                terms,
-                list,
-                listed as usize,
-                rows,
-                members,
-            ) {
-                Count::Counted(n) => Walked::Whole(p, listed, n),
-                Count::Refused(number, place) => Walked::Refused(number, place),
-            }
-        }
-        Stretch::Refused(number, place) => Walked::Refused(number, place),
-    }
+    let plan = Plan::from(*terms);
+    let next = amend_lines(s, line, ranges, plan, list)?;
+    let rest = &s[next.at..];
+    let amendments = next.line - line;
+    let n = amendments as usize;
+    let members = walk_table(rest, next.line, ranges, terms, list, n, rows, members)?;
+    Ok(Outline {
+        plan,
+        amendments,
+        members,
+    })
 }
 
-// The walk from the table on, after the n amendments of a list. It leaves the rows and the members open where walk_lines does.
+// The walk from the table on, after the n amendments of a list: the count of members. It leaves the rows and the members open where
+// walk_lines does.
 fn walk_table(
     s: &[u8],
     line: u64,
@@ -101,17 +87,14 @@ fn walk_table(
     n: usize,
     rows: &mut Rows,
     members: &mut Members,
-) -> Count
+) -> Result<u64, Refused>
     requires { HeadKept ranges terms.now × (line ≤ 65536) × ListKept ranges terms.now list.now n }
     ensures { TableIs ranges (amended terms.now (amendments_from (take n list.now))) line s.now result rows.new members.new }
 {
-    match row_lines(s, line, ranges, rows) {
-        Stretch::Done(next, at) => {
-            let p = judged_by(ranges, terms, list, n);
-            member_lines(from(s, at), next, ranges, p, rows, members)
-        }
-        Stretch::Refused(number, place) => Count::Refused(number, place),
-    }
+    let next = row_lines(s, line, ranges, rows)?;
+    let rest = &s[next.at..];
+    let p = judged_by(ranges, terms, list, n);
+    member_lines(rest, next.line, ranges, p, rows, members)
 }
 
 // The plan as it is valued, by which the members are judged where the ranges are settled; else the plan is of no account.
@@ -119,6 +102,10 @@ fn judged_by(ranges: bool, terms: &Terms, list: &[[u64; 4]], n: usize) -> Plan
     requires { ListKept ranges terms.now list.now n }
     ensures { ranges ≡ true → result ≡ as_valued (plan_from terms.now) (amendments_from (take n list.now)) }
 {
-    let p = plan_from(terms);
-    if ranges { as_valued(p, &list[..n]) } else { p }
+    let plan = Plan::from(*terms);
+    if ranges {
+        as_valued(plan, &list[..n])
+    } else {
+        plan
+    }
 }

@@ -1,20 +1,21 @@
 -- `heading::formula_code` meets its contract.
-use mathlib.Core.Path.{sym, ◌∙◌}
+use Rattle.fields.specs.Text.{bytes}
 use Rattle.walk.specs.Terms.{formula_word}
+use Rattle.heading.proofs.LineLaws.{word_is}
 use Rattle.heading.proofs.formula_code.Goals as goal
 
-pub returns-then-same : goal.returns-then-same
+pub returns-then-eq : goal.returns-then-eq
 unfolding formula_word
-returns-then-same c = simp (sym c.same.ensures ∙ c.if-same.true)
+returns-then-eq c = simp (word_is (bytes "formula=flat") c.args.line.now c.as_slice.ensures c.eq.ensures c.if-eq.true)
 
-pub returns-then-same-2 : goal.returns-then-same-2
+pub returns-then-eq-2 : goal.returns-then-eq-2
 unfolding formula_word
-returns-then-same-2 c = simp (sym c.same.ensures ∙ c.if-same.false, sym c.same-2.ensures ∙ c.if-same-2.true)
+returns-then-eq-2 c = simp (word_is (bytes "formula=flat") c.args.line.now c.as_slice.ensures c.eq.ensures c.if-eq.false, word_is (bytes "formula=career") c.args.line.now c.as_slice-else-eq.ensures c.eq-else-eq.ensures c.if-eq-2.true)
 
-pub returns-then-same-3 : goal.returns-then-same-3
+pub returns-then-eq-3 : goal.returns-then-eq-3
 unfolding formula_word
-returns-then-same-3 c = simp (sym c.same.ensures ∙ c.if-same.false, sym c.same-2.ensures ∙ c.if-same-2.false, sym c.same-3.ensures ∙ c.if-same-3.true)
+returns-then-eq-3 c = simp (word_is (bytes "formula=flat") c.args.line.now c.as_slice.ensures c.eq.ensures c.if-eq.false, word_is (bytes "formula=career") c.args.line.now c.as_slice-else-eq.ensures c.eq-else-eq.ensures c.if-eq-2.false, word_is (bytes "formula=final") c.args.line.now c.as_slice-else-eq-2.ensures c.eq-else-eq-2.ensures c.if-eq-3.true)
 
-pub returns : goal.returns
+pub returns-else-eq-3 : goal.returns-else-eq-3
 unfolding formula_word
-returns c = simp (sym c.same.ensures ∙ c.if-same.false, sym c.same-2.ensures ∙ c.if-same-2.false, sym c.same-3.ensures ∙ c.if-same-3.false)
+returns-else-eq-3 c = simp (word_is (bytes "formula=flat") c.args.line.now c.as_slice.ensures c.eq.ensures c.if-eq.false, word_is (bytes "formula=career") c.args.line.now c.as_slice-else-eq.ensures c.eq-else-eq.ensures c.if-eq-2.false, word_is (bytes "formula=final") c.args.line.now c.as_slice-else-eq-2.ensures c.eq-else-eq-2.ensures c.if-eq-3.false)

@@ -1,27 +1,26 @@
 -- `heading::word_line` meets its contract.
-use mathlib.Core.Path.{refl, ap, ◌∙◌}
-use lib.ListN.{take, length-take}
+use lib.ListN.{length-take}
 use native.Mathlib.Omega.{arith}
-use Rattle.fields.specs.Split.{upto_of}
-use Rattle.heading.specs.Words.{word_of}
-use Rattle.heading.proofs.LineLaws.{word_cut, word_wrong, word_good}
+use Rattle.heading.proofs.LineLaws.{word_within, word_cut, word_good, word_wrong}
+use Rattle.heading.proofs.word_line.Goals.{then-method, else-method}
 use Rattle.heading.proofs.word_line.Goals as goal
 
-pub returns-then-s-e : goal.returns-then-s-e
-returns-then-s-e c = let both = let a = c.args in word_cut a.method a.s.now a.values.now c.seek-e.ensures c.if-s-e.true in
-    record { value = both.0; by_index = both.1 }
+pub returns-in_default : goal.returns-in_default
+returns-in_default c = word_cut _ c.line_end.ensures c.args.method c.in_default.is
 
-pub slice_bounds-word_code-end : goal.slice_bounds-word_code-end
-slice_bounds-word_code-end c = simp length-take (omega arith)
+pub slice_bounds-word-end : goal.slice_bounds-word-end
+slice_bounds-word-end c = simp length-take (omega (arith, word_within c.args.s.now c.line_end.ensures c.in-Some.is))
 
-pub returns-then-code-eq0 : goal.returns-then-code-eq0
-unfolding upto_of
-returns-then-code-eq0 c = let a = c.args in
-    let both = word_wrong a.method a.s.now a.values.now c.seek-e.ensures c.if-s-e.false _ (c.word_code-code.ensures ∙ ap (λ k. word_of a.method (take k a.s.now)) c.seek-e.ensures) c.if-code-eq0.true in
-    record { value = both.0; by_index = both.1 }
+pub returns-in-Some-code : goal.returns-in-Some-code
+returns-in-Some-code c = let code = c.if-method.code in
+    elim c.if-method.branch [
+      | then-method w ↦ word_good _ c.line_end.ensures c.args.method c.in-Some.is code (rw (w.code-is, w.if-method.true) w.method_code-code.ensures) c.in-Some-code.is
+      | else-method w ↦ word_good _ c.line_end.ensures c.args.method c.in-Some.is code (rw (w.code-is, w.if-method.false) w.formula_code-code.ensures) c.in-Some-code.is
+    ]
 
-pub returns : goal.returns
-unfolding upto_of
-returns c = let a = c.args in
-    let both = word_good a.method a.s.now _ c.seek-e.ensures c.if-s-e.false _ (c.word_code-code.ensures ∙ ap (λ k. word_of a.method (take k a.s.now)) c.seek-e.ensures) c.if-code-eq0.false refl refl in
-    record { value = both.0; by_index = both.1 }
+pub returns-in-None : goal.returns-in-None
+returns-in-None c = let code = c.if-method.code in
+    elim c.if-method.branch [
+      | then-method w ↦ word_wrong _ c.line_end.ensures c.args.method c.in-Some.is code (rw (w.code-is, w.if-method.true) w.method_code-code.ensures) c.in-None.is
+      | else-method w ↦ word_wrong _ c.line_end.ensures c.args.method c.in-Some.is code (rw (w.code-is, w.if-method.false) w.formula_code-code.ensures) c.in-None.is
+    ]

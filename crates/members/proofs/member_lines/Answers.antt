@@ -1,88 +1,47 @@
 -- `members::member_lines` meets its contract. The loop's invariant: so many members are read, and the walk goes on from here.
-use Prim.Native.Nat.{◌+◌, ◌-◌}
-use mathlib.Core.Path.{refl}
-use lib.ListN.{length}
+use Prim.Native.Nat.{◌+◌}
 use native.Mathlib.Omega.{arith}
+use Rattle.fields.proofs.SplitLaws.{rest_part}
+use Rattle.stretches.proofs.StretchLaws.{told, on_passed}
 use Rattle.members.specs.Stretch.{MembersAre}
-use Rattle.members.proofs.MemberLaws.{members_none, members_cut, members_surplus, members_neither, end_place, end_size, members_end, listed_place, room, members_refused, members_next}
+use Rattle.members.proofs.MemberLaws.{members_none, members_unread, members_place, members_end, room, members_refused, members_next}
 use Rattle.members.proofs.member_lines.Goals as goal
 
-pub loop-e-init : goal.loop-e-init
-unfolding MembersAre
-loop-e-init c = members_none _ _ _ _ _
+pub loop-tail-init : goal.loop-tail-init
+loop-tail-init c = members_none _ _ _ _ _ c.none-persons.ensures.rooted c.none-persons.ensures.nothing
 
-pub overflow_add-line : goal.overflow_add-line
+pub returns-in_err-tail : goal.returns-in_err-tail
 unfolding MembersAre
-overflow_add-line c = omega (arith, c.loop-e.invariant.few, c.requires.1)
-
-pub from-requires : goal.from-requires
-unfolding MembersAre
-from-requires c = c.loop-e.invariant.within
-
-pub line_refusal-refusal-requires : goal.line_refusal-refusal-requires
-unfolding MembersAre
-line_refusal-refusal-requires c = (c.requires.0, room c.loop-e.invariant c.tail_line.new.values c.from.ensures (c.tail_line.ensures.value, c.tail_line.ensures.tail_held) c.in-Listed.is, c.loop-e.invariant.rooted)
-
-pub returns-then-refusal-ne0 : goal.returns-then-refusal-ne0
-unfolding MembersAre
-returns-then-refusal-ne0 c = members_refused c.loop-e.invariant c.tail_line.new.values c.from.ensures (c.tail_line.ensures.value, c.tail_line.ensures.tail_held) c.in-Listed.is c.member_from-m.ensures c.line_refusal-refusal.ensures.value c.if-refusal-ne0.true
-
-pub bounds-members-j : goal.bounds-members-j
-unfolding MembersAre
-bounds-members-j c = room c.loop-e.invariant c.tail_line.new.values c.from.ensures (c.tail_line.ensures.value, c.tail_line.ensures.tail_held) c.in-Listed.is
+returns-in_err-tail c h fits =
+    rw (told c.from_residual.result c.from_residual.ensures.1) (members_unread c.loop-tail.invariant _ (rest_part c.args.s.now c.loop-tail.at) c.tail_line.ensures h fits c.in_err-tail.ensures)
 
 pub overflow_add-at : goal.overflow_add-at
-unfolding MembersAre
-overflow_add-at c = omega (arith, listed_place c.loop-e.invariant c.tail_line.new.values c.from.ensures (c.tail_line.ensures.value, c.tail_line.ensures.tail_held) c.in-Listed.is)
+overflow_add-at c = omega (arith, members_place c.loop-tail.invariant _ (rest_part c.args.s.now c.loop-tail.at) c.tail_line.ensures c.in_ok-tail.ensures)
 
-pub overflow_add-at-in-Listed : goal.overflow_add-at-in-Listed
-unfolding MembersAre
-overflow_add-at-in-Listed c = omega (arith, listed_place c.loop-e.invariant c.tail_line.new.values c.from.ensures (c.tail_line.ensures.value, c.tail_line.ensures.tail_held) c.in-Listed.is)
+pub overflow_add-at-in-loop-tail : goal.overflow_add-at-in-loop-tail
+overflow_add-at-in-loop-tail c = omega (arith, members_place c.loop-tail.invariant _ (rest_part c.args.s.now c.loop-tail.at) c.tail_line.ensures c.in_ok-tail.ensures)
 
-pub overflow_add-count : goal.overflow_add-count
-unfolding MembersAre
-overflow_add-count c = omega (arith, c.loop-e.invariant.few)
+pub line_refusal-requires : goal.line_refusal-requires
+line_refusal-requires c = (c.requires.0, room c.loop-tail.invariant _ (rest_part c.args.s.now c.loop-tail.at) c.tail_line.ensures c.in_ok-tail.ensures c.in-Listed.is, c.loop-tail.invariant.rooted)
 
-pub loop-e-smaller : goal.loop-e-smaller
+pub returns-in_err-at_line-in-Listed : goal.returns-in_err-at_line-in-Listed
 unfolding MembersAre
-loop-e-smaller c = omega (arith, room c.loop-e.invariant c.tail_line.new.values c.from.ensures (c.tail_line.ensures.value, c.tail_line.ensures.tail_held) c.in-Listed.is)
+returns-in_err-at_line-in-Listed c h fits =
+    let r = c.from_residual-in_err-at_line-in-Listed in
+    rw (told r.result r.ensures.1) (members_refused c.loop-tail.invariant _ (rest_part c.args.s.now c.loop-tail.at) c.tail_line.ensures c.in_ok-tail.ensures c.in-Listed.is _ c.line_refusal.ensures.refusal h fits c.in_err-at_line-in-Listed.ensures)
 
-pub loop-e-preserved : goal.loop-e-preserved
-unfolding MembersAre
-loop-e-preserved c = members_next c.loop-e.invariant c.tail_line.new.values c.from.ensures (c.tail_line.ensures.value, c.tail_line.ensures.tail_held) c.in-Listed.is c.member_from-m.ensures c.line_refusal-refusal.ensures.value c.if-refusal-ne0.false refl (c.line_refusal-refusal.ensures.rooted c.if-refusal-ne0.false) (c.line_refusal-refusal.ensures.person_after c.if-refusal-ne0.false)
+pub bounds-members-count : goal.bounds-members-count
+bounds-members-count c = room c.loop-tail.invariant _ (rest_part c.args.s.now c.loop-tail.at) c.tail_line.ensures c.in_ok-tail.ensures c.in-Listed.is
 
-pub overflow_add-after : goal.overflow_add-after
-unfolding MembersAre
-overflow_add-after c = omega (arith, end_place c.loop-e.invariant c.tail_line.new.values c.from.ensures (c.tail_line.ensures.value, c.tail_line.ensures.tail_held) c.in-End.is)
+pub loop-tail-smaller : goal.loop-tail-smaller
+loop-tail-smaller c = omega (arith, room c.loop-tail.invariant _ (rest_part c.args.s.now c.loop-tail.at) c.tail_line.ensures c.in_ok-tail.ensures c.in-Listed.is)
 
-pub overflow_add-after-in-End : goal.overflow_add-after-in-End
-unfolding MembersAre
-overflow_add-after-in-End c = omega (arith, end_place c.loop-e.invariant c.tail_line.new.values c.from.ensures (c.tail_line.ensures.value, c.tail_line.ensures.tail_held) c.in-End.is)
+pub loop-tail-preserved : goal.loop-tail-preserved
+loop-tail-preserved c =
+    members_next c.loop-tail.invariant _ (rest_part c.args.s.now c.loop-tail.at) c.tail_line.ensures c.in_ok-tail.ensures c.in-Listed.is _ c.line_refusal.ensures.refusal c.in_ok-at_line-in-Listed.ensures (rw c.from.ensures) (on_passed (c.args.first + c.loop-tail.count) c.line_refusal.result c.in_ok-at_line-in-Listed.ensures c.line_refusal.ensures.rooted) (on_passed (c.args.first + c.loop-tail.count) c.line_refusal.result c.in_ok-at_line-in-Listed.ensures c.line_refusal.ensures.person_after)
 
-pub overflow_sub-after : goal.overflow_sub-after
-unfolding MembersAre
-overflow_sub-after c = omega (arith, end_place c.loop-e.invariant c.tail_line.new.values c.from.ensures (c.tail_line.ensures.value, c.tail_line.ensures.tail_held) c.in-End.is)
-
-pub bounds-values-0 : goal.bounds-values-0
-unfolding MembersAre
-bounds-values-0 c = omega (arith, end_size c.loop-e.invariant c.tail_line.new.values c.from.ensures (c.tail_line.ensures.value, c.tail_line.ensures.tail_held) c.in-End.is)
-
-pub end_count-requires : goal.end_count-requires
-unfolding MembersAre
-end_count-requires c = omega (arith, c.loop-e.invariant.few, c.requires.1)
+pub overflow_sub-s : goal.overflow_sub-s
+overflow_sub-s c = members_place c.loop-tail.invariant _ (rest_part c.args.s.now c.loop-tail.at) c.tail_line.ensures c.in_ok-tail.ensures
 
 pub returns-in-End : goal.returns-in-End
-unfolding MembersAre
-returns-in-End c = members_end c.loop-e.invariant c.tail_line.new.values c.from.ensures (c.tail_line.ensures.value, c.tail_line.ensures.tail_held) c.in-End.is (length c.args.s.now - (c.loop-e.at + c.in-End.e + 1)) (omega arith) c.end_count.ensures
-
-pub returns-in-Surplus : goal.returns-in-Surplus
-unfolding MembersAre
-returns-in-Surplus c h fits = members_surplus c.loop-e.invariant c.tail_line.new.values c.from.ensures (c.tail_line.ensures.value, c.tail_line.ensures.tail_held) h fits c.in-Surplus.is
-
-pub returns-in-Neither : goal.returns-in-Neither
-unfolding MembersAre
-returns-in-Neither c h fits = members_neither c.loop-e.invariant c.tail_line.new.values c.from.ensures (c.tail_line.ensures.value, c.tail_line.ensures.tail_held) h fits c.in-Neither.is
-
-pub returns-in-Cut : goal.returns-in-Cut
-unfolding MembersAre
-returns-in-Cut c h fits = members_cut c.loop-e.invariant c.tail_line.new.values c.from.ensures (c.tail_line.ensures.value, c.tail_line.ensures.tail_held) h fits c.in-Cut.is
+returns-in-End c = members_end c.loop-tail.invariant _ (rest_part c.args.s.now c.loop-tail.at) c.tail_line.ensures c.in_ok-tail.ensures c.in-End.is c.end_count.ensures

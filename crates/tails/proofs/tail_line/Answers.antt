@@ -1,32 +1,26 @@
 -- `tails::tail_line` meets its contract.
-use mathlib.Core.Path.{refl, sym, ◌∙◌}
-use Rattle.fields.proofs.SplitLaws.{has_lacks}
-use Rattle.tails.proofs.LineLaws.{member_good, member_wrong, member_cut}
+use mathlib.Core.Path.{◌∙◌}
+use Rattle.fields.specs.Text.{bytes}
+use Rattle.fields.proofs.StdWords.{starts_is}
+use Rattle.tails.proofs.LineLaws.{err_is, member_read, member_fault, end_read, end_fault, surplus_line}
 use Rattle.tails.proofs.tail_line.Goals as goal
 
+pub returns-in_err-values : goal.returns-in_err-values
+returns-in_err-values c =
+    err_is _ _ c.from_residual.ensures.1 ∙ end_fault _ (c.starts_with.ensures.value ∙ starts_is (bytes "member=") c.args.s.now) _ c.if-not-starts_with.true c.whole_values.ensures c.in_err-values.was
+
+pub returns-then-not-starts_with : goal.returns-then-not-starts_with
+returns-then-not-starts_with c =
+    end_read _ (c.starts_with.ensures.value ∙ starts_is (bytes "member=") c.args.s.now) _ c.if-not-starts_with.true c.whole_values.ensures c.in_ok-values.was
+
 pub returns-then-full : goal.returns-then-full
-returns-then-full c = record { value = rw c.if-full.true (c.full_line.ensures.value); tail_held = rw c.if-full.true (c.full_line.ensures.tail_held) }
+returns-then-full c =
+    surplus_line _ (c.starts_with.ensures.value ∙ starts_is (bytes "member=") c.args.s.now) c.if-not-starts_with.false c.if-full.true c.surplus.ensures
 
-pub four_and_amount-requires : goal.four_and_amount-requires
-four_and_amount-requires c = has_lacks 10 _ refl
+pub returns-in_err-values-2 : goal.returns-in_err-values-2
+returns-in_err-values-2 c =
+    err_is _ _ c.from_residual-in_err-values-2.ensures.1 ∙ member_fault _ (c.starts_with.ensures.value ∙ starts_is (bytes "member=") c.args.s.now) c.if-not-starts_with.false c.if-full.false c.values_to_amount.ensures c.in_err-values-2.was
 
-pub end_line-requires : goal.end_line-requires
-end_line-requires c = sym c.starts.ensures ∙ c.if-starts.false
-
-pub returns-in-Good : goal.returns-in-Good
-returns-in-Good c = let both = member_good _ _ _ c.if-full.false (c.four_and_amount.ensures.value, c.four_and_amount.ensures.by_index) c.in-Good.is in
-    record { value = both.0; tail_held = both.1 }
-
-pub returns-then-starts : goal.returns-then-starts
-returns-then-starts c = let both = member_wrong _ _ _ c.if-full.false (c.four_and_amount.ensures.value, c.four_and_amount.ensures.by_index) c.in-Wrong.is c.starts.ensures c.if-starts.true in
-    record { value = both.0; tail_held = both.1 }
-
-pub returns-else-starts-clause-value : goal.returns-else-starts-clause-value
-returns-else-starts-clause-value c = c.end_line.ensures.value
-
-pub returns-else-starts-clause-tail_held : goal.returns-else-starts-clause-tail_held
-returns-else-starts-clause-tail_held c = c.end_line.ensures.tail_held
-
-pub returns-in-Cut : goal.returns-in-Cut
-returns-in-Cut c = let both = member_cut _ _ _ c.if-full.false (c.four_and_amount.ensures.value, c.four_and_amount.ensures.by_index) c.in-Cut.is in
-    record { value = both.0; tail_held = both.1 }
+pub returns : goal.returns
+returns c =
+    member_read _ (c.starts_with.ensures.value ∙ starts_is (bytes "member=") c.args.s.now) c.if-not-starts_with.false c.if-full.false c.values_to_amount.ensures c.in_ok-values-2.was c.from.ensures

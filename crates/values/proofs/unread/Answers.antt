@@ -1,9 +1,10 @@
 -- `values::unread` meets its contract.
-use Rattle.fields.proofs.SplitLaws.{cut_off, not_cut}
+use mathlib.Core.Path.{sym, ◌∙◌}
+use Rattle.fields.proofs.StdWords.{any_is}
 use Rattle.values.proofs.unread.Goals as goal
 
-pub returns-then-seek-s : goal.returns-then-seek-s
-returns-then-seek-s c = not_cut _ c.seek.ensures c.if-seek-s.true
+pub returns-then-contains : goal.returns-then-contains
+returns-then-contains c = let has = sym (any_is 10 c.args.s.now) ∙ sym c.contains.ensures.value ∙ c.if-contains.true in rw has
 
-pub returns-else-seek-s : goal.returns-else-seek-s
-returns-else-seek-s c = cut_off _ c.seek.ensures c.if-seek-s.false
+pub returns-else-contains : goal.returns-else-contains
+returns-else-contains c = let none = sym (any_is 10 c.args.s.now) ∙ sym c.contains.ensures.value ∙ c.if-contains.false in rw none

@@ -1,11 +1,6 @@
 -- `fields::numbers::field_at` meets its contract. The loop's invariant: only digits so far, 12 at most.
-use Prim.Native.Nat.{◌-◌}
-use lib.ListN.{length}
 use Rattle.fields.proofs.FieldLaws.{Run}
 use Rattle.fields.proofs.numbers.field_at.Given as goal
 
 abbrev pub invariant-loop-j : goal.invariant-loop-j
 invariant-loop-j l = Run l.s l.i l.j l.n
-
-abbrev pub decreases-loop-j : goal.decreases-loop-j
-decreases-loop-j l = length l.s - l.j
