@@ -1,7 +1,7 @@
 -- The laws of refusals: each has a number, and a `?` hands on the first.
 use mathlib.Core.Path.{◌≡◌, refl, sym, ◌∙◌}
 use mathlib.Core.List.{List, [], ◌∷◌}
-use Prim.Native.Nat.{ℕ}
+use Prim.Native.Nat.{ℕ, ◌^◌, ◌≤◌, ◌<◌}
 use borrow.Author.Tests.{ne_eqb}
 use native.Mathlib.Omega.{arith}
 use Rattle.std.specs.declared.result.Result.{Result}
@@ -15,30 +15,36 @@ use Rattle.rules.specs.Refusals.{number, verdict}
 use Rattle.rules.specs.Rules.{first_among}
 use Rattle.rules.proofs.RuleLaws.{first_refuses, first_passes, first_alone}
 
--- no refusal has the number 0
+-- each number has one digit or two, and none is 0
+pub in_digits : (r : Refusal) → (1 ≤ number r) × (number r < 100)
+in_digits TooLarge = (omega arith, omega arith)
+in_digits CutOff = (omega arith, omega arith)
+in_digits BytesAfter = (omega arith, omega arith)
+in_digits WrongCount = (omega arith, omega arith)
+in_digits PlanForm = (omega arith, omega arith)
+in_digits OutOfRange = (omega arith, omega arith)
+in_digits WrongAverage = (omega arith, omega arith)
+in_digits WrongLastDeath = (omega arith, omega arith)
+in_digits WrongWeight = (omega arith, omega arith)
+in_digits WrongAmendment = (omega arith, omega arith)
+in_digits UnlistedRest = (omega arith, omega arith)
+in_digits HighUnit = (omega arith, omega arith)
+in_digits MemberForm = (omega arith, omega arith)
+in_digits WrongId = (omega arith, omega arith)
+in_digits WrongEntry = (omega arith, omega arith)
+in_digits WrongAge = (omega arith, omega arith)
+in_digits WrongSalary = (omega arith, omega arith)
+in_digits HighBenefit = (omega arith, omega arith)
+in_digits SurplusMember = (omega arith, omega arith)
+in_digits WrongPerson = (omega arith, omega arith)
+in_digits HighSum = (omega arith, omega arith)
+in_digits NoRoom = (omega arith, omega arith)
+
 pub numbered : (r : Refusal) → number r ≡ 0 → ⊥
-numbered TooLarge e = omega arith
-numbered CutOff e = omega arith
-numbered BytesAfter e = omega arith
-numbered WrongCount e = omega arith
-numbered PlanForm e = omega arith
-numbered OutOfRange e = omega arith
-numbered WrongAverage e = omega arith
-numbered WrongLastDeath e = omega arith
-numbered WrongWeight e = omega arith
-numbered WrongAmendment e = omega arith
-numbered UnlistedRest e = omega arith
-numbered HighUnit e = omega arith
-numbered MemberForm e = omega arith
-numbered WrongId e = omega arith
-numbered WrongEntry e = omega arith
-numbered WrongAge e = omega arith
-numbered WrongSalary e = omega arith
-numbered HighBenefit e = omega arith
-numbered SurplusMember e = omega arith
-numbered WrongPerson e = omega arith
-numbered HighSum e = omega arith
-numbered NoRoom e = omega arith
+numbered r none = omega (arith, (in_digits r).0)
+
+pub number_small : (r : Refusal) → number r < 2 ^ 64
+number_small r = omega (arith, (in_digits r).1)
 
 -- what a `?` returns
 pub handed_on : {A : Type 0} (e : Refusal) (r : Result A Refusal) → IsErrAnd r (λ d. d ≡ e) → verdict r ≡ number e

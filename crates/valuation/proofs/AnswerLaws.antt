@@ -13,7 +13,13 @@ use Rattle.plan.specs.declared.Member.{Member}
 use Rattle.rule_order.proofs.Facts.{id_small, member_facts}
 use Rattle.members.specs.Array.{member_at, array_of}
 use Rattle.members.proofs.ArrayLaws.{array_member}
-use Rattle.rules.specs.Outcome.{Outcome, values, refusal, and_then}
+use Rattle.std.specs.declared.result.Result.{Result}
+use Rattle.std.specs.declared.result.Result.TheVariants.{Ok, Err}
+use Rattle.std.specs.Result.{IsOk, result_or}
+use Rattle.rules.specs.declared.refusals.Refused.{Refused}
+use Rattle.rules.specs.Refusals.{number}
+use Rattle.rules.specs.Outcome.{Outcome, values, refusal, and_then, outcome}
+use Rattle.rules.proofs.RefusalLaws.{number_small}
 use Rattle.amendments.specs.Force.{amendments_from, as_valued}
 use Rattle.amendments.proofs.Keeping.{list_kept, few_listed}
 use Rattle.rule_order.proofs.ValuedLaws.{amended_kept}
@@ -21,8 +27,7 @@ use Rattle.walk.specs.Walk.{Case, valued_plan}
 use Rattle.amend_lines.specs.Array.{list_array}
 use Rattle.amend_lines.proofs.ArrayLaws.{list_front}
 use Rattle.walk.specs.Kept.{AcceptedCase, nobody}
-use Rattle.casefile.specs.declared.Accepting.TheVariants.{Accepted as CaseAccepted, Refused as CaseRefused}
-use Rattle.casefile.specs.Answers.{accepting_of, accepting}
+use Rattle.casefile.specs.Answers.{accepting_of, accepted, accepting}
 use Rattle.casefile.specs.Stored.{id_before_at, amendments_after, rows_after, members_after, AcceptedArrays}
 use Rattle.casefile.proofs.Arrays.{accepted_case}
 use Rattle.all_figures.specs.Worked.{members_in, AcceptedMembers, AreWorked}
@@ -30,9 +35,8 @@ use Rattle.all_figures.proofs.WorkedLaws.{worked_small}
 use Rattle.report.specs.Lines.{printed, refusal_line}
 use Rattle.report.specs.MemberLines.{ShortLines}
 use Rattle.report.proofs.PrintedLaws.{refusal_line_most}
-use Rattle.fitting.specs.declared.Answer.TheVariants.{Written, Refused}
 use Rattle.fitting.specs.Fitting.{fitting, answer, buffer}
-use Rattle.valuation.specs.Answers.{valued_of, or_refusal, program_of, Writes}
+use Rattle.valuation.specs.Answers.{valued_of, or_refusal, program_of}
 
 -- ---- what accepting hands on
 in_array : (a : List (List ℕ)) (l : List Member) → ((j : ℕ) → j < length l → member_at a j ≡ get_or l j nobody) → (n : ℕ) → n ≤ length l → members_in a n ≡ take n l
@@ -64,7 +68,7 @@ array_list c a =
     let list = (amended_kept c.plan c.amends c.rows a.plan).1 in
     list_front c.amends refl (few_listed c.amends (list_kept c.plan c.amends list).0)
 
-valued_by : (o : Outcome Case) (room : ℕ) {p : Plan} {k n : ℕ} {amendments rows members : List (List ℕ)} (old_amendments old_rows old_members : List (List ℕ)) → ((c : Case) → o ≡ values c → AcceptedCase c) → CaseAccepted p k n ≡ accepting o → amendments ≡ amendments_after o old_amendments → rows ≡ rows_after o old_rows → members ≡ members_after o old_members → fitting room (printed (as_valued p (amendments_from (take k amendments))) rows (members_in members n)) ≡ and_then o (λ c. fitting room (printed (valued_plan c) c.rows c.members))
+valued_by : (o : Outcome Case) (room : ℕ) {p : Plan} {k n : ℕ} {amendments rows members : List (List ℕ)} (old_amendments old_rows old_members : List (List ℕ)) → ((c : Case) → o ≡ values c → AcceptedCase c) → accepted p k n ≡ accepting o → amendments ≡ amendments_after o old_amendments → rows ≡ rows_after o old_rows → members ≡ members_after o old_members → fitting room (printed (as_valued p (amendments_from (take k amendments))) rows (members_in members n)) ≡ and_then o (λ c. fitting room (printed (valued_plan c) c.rows c.members))
 valued_by (values c) room {p} {k} {n} old_amendments old_rows old_members is said list table array =
     let terms : p ≡ c.plan = cc in
     let many : k ≡ length c.amends = cc in
@@ -73,62 +77,65 @@ valued_by (values c) room {p} {k} {n} old_amendments old_rows old_members is sai
 valued_by (refusal number line) room old_amendments old_rows old_members is said list table array =
     let z : ◌≡◌ {A = ℕ} 0 1 = cc in absurd (omega arith)
 
-refused_by : (o : Outcome Case) (more : Case → Outcome (List ℕ)) {number line : ℕ} → CaseRefused number line ≡ accepting o → and_then o more ≡ refusal number line
+refused_by : (o : Outcome Case) (more : Case → Outcome (List ℕ)) {number line : ℕ} → refusal number line ≡ accepting o → and_then o more ≡ refusal number line
 refused_by (values c) more said = let z : ◌≡◌ {A = ℕ} 0 1 = cc in absurd (omega arith)
 refused_by (refusal n l) more said = cc
 
 module _ (s : List ℕ) (room : ℕ) where
-  pub valued_accepted : {p : Plan} {k n : ℕ} {amendments rows members : List (List ℕ)} (old_amendments old_rows old_members : List (List ℕ)) → CaseAccepted p k n ≡ accepting (accepting_of s) → amendments ≡ amendments_after (accepting_of s) old_amendments → rows ≡ rows_after (accepting_of s) old_rows → members ≡ members_after (accepting_of s) old_members → fitting room (printed (as_valued p (amendments_from (take k amendments))) rows (members_in members n)) ≡ valued_of room s
+  pub valued_accepted : {p : Plan} {k n : ℕ} {amendments rows members : List (List ℕ)} (old_amendments old_rows old_members : List (List ℕ)) → accepted p k n ≡ accepting (accepting_of s) → amendments ≡ amendments_after (accepting_of s) old_amendments → rows ≡ rows_after (accepting_of s) old_rows → members ≡ members_after (accepting_of s) old_members → fitting room (printed (as_valued p (amendments_from (take k amendments))) rows (members_in members n)) ≡ valued_of room s
   unfolding valued_of
   valued_accepted old_amendments old_rows old_members = valued_by (accepting_of s) room old_amendments old_rows old_members (accepted_case s)
 
-  pub valued_refused : {number line : ℕ} → CaseRefused number line ≡ accepting (accepting_of s) → valued_of room s ≡ refusal number line
+  pub valued_refused : {number line : ℕ} → refusal number line ≡ accepting (accepting_of s) → valued_of room s ≡ refusal number line
   unfolding valued_of
   valued_refused = refused_by (accepting_of s) (λ c. fitting room (printed (valued_plan c) c.rows c.members))
 
 -- ---- what the program prints, from the two answers
 -- where its line fits it is written, and where it doesn't the refusal stays what it was
-module _ (old : List ℕ) (number line : ℕ) where
-  fits_or_not : (t : Bool) {n : ℕ} → Written n ≡ answer (cond t (values (refusal_line number line)) (refusal 30 0)) → t ≡ true
-  fits_or_not true said = refl
-  fits_or_not false said = let z : ◌≡◌ {A = ℕ} 0 1 = cc in absurd (omega arith)
+module _ (old : List ℕ) (refused : Refused) where
+  abbrev lines : List ℕ
+  lines = refusal_line (number refused.refusal) refused.line
 
-  too_long_line : (t : Bool) {a b : ℕ} → Refused a b ≡ answer (cond t (values (refusal_line number line)) (refusal 30 0)) → t ≡ false
-  too_long_line true said = let z : ◌≡◌ {A = ℕ} 0 1 = cc in absurd (omega arith)
-  too_long_line false said = refl
+  abbrev said : Outcome (List ℕ)
+  said = or_refusal (length old) (refusal (number refused.refusal) refused.line)
 
-  pub line_written : {n : ℕ} {out : List ℕ} → Written n ≡ answer (fitting (length old) (refusal_line number line)) → out ≡ buffer (fitting (length old) (refusal_line number line)) old → (Written n ≡ answer (or_refusal (length old) (refusal number line))) × (out ≡ buffer (or_refusal (length old) (refusal number line)) old)
+  fits_or_not : (t : Bool) {n : ℕ} → values n ≡ answer (cond t (values lines) (refusal 30 0)) → t ≡ true
+  fits_or_not true e = refl
+  fits_or_not false e = let z : ◌≡◌ {A = ℕ} 0 1 = cc in absurd (omega arith)
+
+  too_long_line : (t : Bool) {a b : ℕ} → refusal a b ≡ answer (cond t (values lines) (refusal 30 0)) → t ≡ false
+  too_long_line true e = let z : ◌≡◌ {A = ℕ} 0 1 = cc in absurd (omega arith)
+  too_long_line false e = refl
+
+  pub line_or_refusal : (r : Result ℕ Refused) {out : List ℕ} → refused.line < 2 ^ 64 → outcome r ≡ answer (fitting (length old) lines) → out ≡ buffer (fitting (length old) lines) old → (outcome (result_or r (Err refused)) ≡ answer said) × (out ≡ buffer said old) × (50 ≤ length old → IsOk (result_or r (Err refused)))
   unfolding fitting
-  line_written said held =
-      let fits = fits_or_not (leb (length (refusal_line number line)) (length old)) said in
-      rw fits (rw fits at said, rw fits at held)
-
-  pub line_kept : {a b : ℕ} {out : List ℕ} → number < 2 ^ 64 → line < 2 ^ 64 → Refused a b ≡ answer (fitting (length old) (refusal_line number line)) → out ≡ buffer (fitting (length old) (refusal_line number line)) old → (Refused number line ≡ answer (or_refusal (length old) (refusal number line))) × ((out ≡ buffer (or_refusal (length old) (refusal number line)) old) × (50 ≤ length old → Writes (Refused number line)))
-  unfolding fitting
-  line_kept hn hl said held =
-      let long = too_long_line (leb (length (refusal_line number line)) (length old)) said in
-      let room : 50 ≤ length old → Writes (Refused number line) = λ enough.
-      let short = le-leb (length (refusal_line number line)) (length old) (omega (arith, refusal_line_most number line hn hl)) in
+  line_or_refusal (Ok n) small e held =
+      let fits = fits_or_not (leb (length lines) (length old)) e in
+      (rw fits (rw fits at e), rw fits (rw fits at held), λ enough. refl)
+  line_or_refusal (Err other) small e held =
+      let long = too_long_line (leb (length lines) (length old)) e in
+      let none : 50 ≤ length old → IsOk {T = ℕ} (Err refused) = λ enough.
+      let short = le-leb (length lines) (length old) (omega (arith, refusal_line_most (number refused.refusal) refused.line (number_small refused.refusal) small)) in
       let z : ◌≡◌ {A = ℕ} 0 1 = cc in absurd (omega arith) in
-      rw long (refl, (rw long at held, room))
+      (rw long refl, rw long (rw long at held), none)
 
 -- where lines were written they stay, and where the case was refused the buffer is as it was
-lines_printed : (room : ℕ) (o : Outcome (List ℕ)) (old : List ℕ) {n : ℕ} → Written n ≡ answer o → (answer o ≡ answer (or_refusal room o)) × (buffer o old ≡ buffer (or_refusal room o) old)
+lines_printed : (room : ℕ) (o : Outcome (List ℕ)) (old : List ℕ) {n : ℕ} → values n ≡ answer o → (answer o ≡ answer (or_refusal room o)) × (buffer o old ≡ buffer (or_refusal room o) old)
 lines_printed room (values lines) old said = (refl, refl)
 lines_printed room (refusal number line) old said = let z : ◌≡◌ {A = ℕ} 0 1 = cc in absurd (omega arith)
 
-refused_as : (o : Outcome (List ℕ)) (old : List ℕ) {number line : ℕ} → Refused number line ≡ answer o → (o ≡ refusal number line) × (buffer o old ≡ old)
+refused_as : (o : Outcome (List ℕ)) (old : List ℕ) {number line : ℕ} → refusal number line ≡ answer o → (o ≡ refusal number line) × (buffer o old ≡ old)
 refused_as (values lines) old said = let z : ◌≡◌ {A = ℕ} 0 1 = cc in absurd (omega arith)
 refused_as (refusal n l) old said = (cc, refl)
 
 module _ (s old : List ℕ) where
-  pub program_lines : {n : ℕ} {out : List ℕ} → Written n ≡ answer (valued_of (length old) s) → out ≡ buffer (valued_of (length old) s) old → (Written n ≡ answer (program_of (length old) s)) × (out ≡ buffer (program_of (length old) s) old)
+  pub program_lines : {n : ℕ} {out : List ℕ} → values n ≡ answer (valued_of (length old) s) → out ≡ buffer (valued_of (length old) s) old → (values n ≡ answer (program_of (length old) s)) × (out ≡ buffer (program_of (length old) s) old)
   unfolding program_of
   program_lines said held =
       let same = lines_printed (length old) (valued_of (length old) s) old said in
       (said ∙ same.0, held ∙ same.1)
 
-  pub program_refusal : {number line : ℕ} {out : List ℕ} → Refused number line ≡ answer (valued_of (length old) s) → out ≡ buffer (valued_of (length old) s) old → (or_refusal (length old) (refusal number line) ≡ program_of (length old) s) × (out ≡ old)
+  pub program_refusal : {number line : ℕ} {out : List ℕ} → refusal number line ≡ answer (valued_of (length old) s) → out ≡ buffer (valued_of (length old) s) old → (or_refusal (length old) (refusal number line) ≡ program_of (length old) s) × (out ≡ old)
   unfolding program_of
   program_refusal said held =
       let is = refused_as (valued_of (length old) s) old said in
