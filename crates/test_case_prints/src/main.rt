@@ -48,13 +48,13 @@ fn case(rt: &impl Print, input: &mut impl Read) -> io::Result<bool> {
     }
     let room = u32::from_le_bytes([e, f, g, h]) as usize;
     match out.get_mut(..room + AFTER) {
-        Some(out) => answered(rt, case, out, room),
+        Some(out) => printed(rt, case, out, room),
         None => Ok(false),
     }
 }
 
 // Prints into the room, and writes what was answered, the bytes of the room and those after it.
-fn answered(rt: &impl Print, case: &[u8], out: &mut [u8], room: usize) -> io::Result<bool>
+fn printed(rt: &impl Print, case: &[u8], out: &mut [u8], room: usize) -> io::Result<bool>
     requires { room ≤ length out.old }
 {
     answer(rt, print_case(case, &mut out[..room]))?;
