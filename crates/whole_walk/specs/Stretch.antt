@@ -1,6 +1,5 @@
 -- Rule 12.4, what the parts promise together: the walk from the table on, and the whole walk.
-use Rattle.std.specs.Prelude.{ℕ, ◌≤◌, ◌≡◌, List, Bool, true, length, take, Result, Ok, Err}
-use Rattle.plan.specs.declared.Plan.{Plan}
+use Rattle.std.specs.Prelude.{ℕ, ◌≡◌, List, Bool, true, length, Result, Ok, Err}
 use Rattle.plan.specs.declared.Member.{Member}
 use Rattle.plan.specs.Numbers.{plan_from}
 use Rattle.amendments.specs.Force.{amendments_from}
@@ -15,10 +14,9 @@ use Rattle.amend_lines.specs.Array.{list_array}
 use Rattle.members.specs.Array.{array_of}
 use Rattle.whole_walk.specs.declared.Outline.{Outline}
 
--- the n amendments at the front of a list, which are accepted where the ranges are settled
-pub record ListKept (ranges : Bool) (terms : List ℕ) (list : List (List ℕ)) (n : ℕ) : Type 0 where
-  pub room : n ≤ length list
-  pub kept : ranges ≡ true → amendments_refusal (plan_from terms) (amendments_from (take n list)) ≡ 0
+-- the amendments of a list, which are accepted where the ranges are settled
+abbrev pub ListKept : (ranges : Bool) → (terms : List ℕ) → (list : List (List ℕ)) → Type 0
+ListKept ranges terms list = ranges ≡ true → amendments_refusal (plan_from terms) (amendments_from list) ≡ 0
 
 -- from the table on, after the terms and the amendments
 pub record TableDone (ranges : Bool) (h : Head) (first : ℕ) (s : List ℕ) (n : ℕ) (array members : List (List ℕ)) : Type 0 where
@@ -34,16 +32,16 @@ TableIs ranges h first s (Ok n) rows members = TableDone ranges h first s n rows
 TableIs ranges h first s (Err refused) rows members = walk_from ranges first (table h) s ≡ refusal (number refused.refusal) refused.line
 
 -- the whole walk
-pub record WalkDone (ranges : Bool) (o : Outcome Case) (p : Plan) (k n : ℕ) (amendments rows members : List (List ℕ)) : Type 0 where
+pub record WalkDone (ranges : Bool) (o : Outcome Case) (outline : Outline) (amendments rows members : List (List ℕ)) : Type 0 where
   pub case : Case
   pub way : o ≡ values case
-  pub plan : p ≡ case.plan
-  pub listed : k ≡ length case.amends
+  pub plan : outline.plan ≡ case.plan
+  pub listed : outline.amendments ≡ length case.amends
   pub list : amendments ≡ list_array case.amends
-  pub many : n ≡ length case.members
+  pub many : outline.members ≡ length case.members
   pub table : ranges ≡ true → rows ≡ case.rows
   pub held : members ≡ array_of case.members
 
 unfoldable pub WalkIs : (ranges : Bool) → Outcome Case → Result Outline Refused → (amendments rows members : List (List ℕ)) → Type 0
-WalkIs ranges o (Ok whole) amendments rows members = WalkDone ranges o whole.plan whole.amendments whole.members amendments rows members
+WalkIs ranges o (Ok outline) amendments rows members = WalkDone ranges o outline amendments rows members
 WalkIs ranges o (Err refused) amendments rows members = o ≡ refusal (number refused.refusal) refused.line

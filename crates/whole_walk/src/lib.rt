@@ -2,7 +2,7 @@
 // members. The crate walk says what it is, and specs/Stretch.antt what the parts promise together.
 #![tactic(auto)]
 
-ghost use Rattle.std.specs.Prelude.{◌≡◌, true, [], ◌≤◌, take};
+ghost use Rattle.std.specs.Prelude.{◌≡◌, true, [], ◌≤◌};
 ghost use Rattle.plan.specs.Numbers.{plan_from};
 ghost use Rattle.amendments.specs.Force.{amendments_from, as_valued};
 ghost use Rattle.walk.specs.Step.{headed, amending};
@@ -20,8 +20,9 @@ use plan::{Members, Plan, TERMS, Terms};
 use rates::Rows;
 use rows::row_lines;
 use rules::refusals::{Refusal, Refused};
+use stretches::Next;
 
-// What the walk gives: the plan with the heading's unit, and the counts of amendments and members.
+// What a walk gives beside the arrays that it fills: the plan, with the heading's unit, and the counts of amendments and members.
 #[derive(Clone, Copy)]
 pub struct Outline {
     pub plan: Plan,
@@ -45,9 +46,8 @@ pub fn walk_lines(
         return Err(Refusal::TooLarge.at(0));
     }
     let mut terms = [0; TERMS];
-    let next = head_lines(case, ranges, &mut terms)?;
-    let rest = &case[next.at..];
-    walk_list(rest, next.line, ranges, &terms, list, rows, members)
+    let Next { line, at } = head_lines(case, ranges, &mut terms)?;
+    walk_list(&case[at..], line, ranges, &terms, list, rows, members)
 }
 
 // The walk from the amendments on, after the terms. It leaves the arrays open where walk_lines does.
@@ -64,48 +64,40 @@ fn walk_list(
     ensures { WalkIs ranges (walk_from ranges line (amending (headed terms.now)) s.now) result list.new rows.new members.new }
 {
     let plan = Plan::from(*terms);
-    let next = amend_lines(s, line, ranges, plan, list)?;
-    let rest = &s[next.at..];
-    let amendments = next.line - line;
-    let n = amendments as usize;
-    let members = walk_table(rest, next.line, ranges, terms, list, n, rows, members)?;
+    let Next { line: next, at } = amend_lines(s, line, ranges, plan, list)?;
+    let amendments = next - line;
+    let listed = &list[..amendments as usize];
+    let counted = walk_table(&s[at..], next, ranges, terms, listed, rows, members)?;
     Ok(Outline {
         plan,
         amendments,
-        members,
+        members: counted,
     })
 }
 
-// The walk from the table on, after the n amendments of a list: the count of members. It leaves the rows and the members open where
-// walk_lines does.
+// The walk from the table on, after the amendments of a list. It leaves the rows and the members open where walk_lines does.
 fn walk_table(
     s: &[u8],
     line: u64,
     ranges: bool,
     terms: &Terms,
     list: &[[u64; 4]],
-    n: usize,
     rows: &mut Rows,
     members: &mut Members,
 ) -> Result<u64, Refused>
-    requires { HeadKept ranges terms.now × (line ≤ 65536) × ListKept ranges terms.now list.now n }
-    ensures { TableIs ranges (amended terms.now (amendments_from (take n list.now))) line s.now result rows.new members.new }
+    requires { HeadKept ranges terms.now × (line ≤ 65536) × ListKept ranges terms.now list.now }
+    ensures { TableIs ranges (amended terms.now (amendments_from list.now)) line s.now result rows.new members.new }
 {
-    let next = row_lines(s, line, ranges, rows)?;
-    let rest = &s[next.at..];
-    let p = judged_by(ranges, terms, list, n);
-    member_lines(rest, next.line, ranges, p, rows, members)
+    let Next { line: next, at } = row_lines(s, line, ranges, rows)?;
+    let p = judged_by(ranges, terms, list);
+    member_lines(&s[at..], next, ranges, p, rows, members)
 }
 
 // The plan as it is valued, by which the members are judged where the ranges are settled; else the plan is of no account.
-fn judged_by(ranges: bool, terms: &Terms, list: &[[u64; 4]], n: usize) -> Plan
-    requires { ListKept ranges terms.now list.now n }
-    ensures { ranges ≡ true → result ≡ as_valued (plan_from terms.now) (amendments_from (take n list.now)) }
+fn judged_by(ranges: bool, terms: &Terms, list: &[[u64; 4]]) -> Plan
+    requires { ListKept ranges terms.now list.now }
+    ensures { ranges ≡ true → result ≡ as_valued (plan_from terms.now) (amendments_from list.now) }
 {
-    let plan = Plan::from(*terms);
-    if ranges {
-        as_valued(plan, &list[..n])
-    } else {
-        plan
-    }
+    let p = Plan::from(*terms);
+    if ranges { as_valued(p, list) } else { p }
 }
