@@ -21,6 +21,7 @@ pub fn life_annuity(rows: Rows, r: usize, i: u64) -> Factors
 }
 
 // The same where the rows are lent.
+#[tactic(auto, unfolding(factors::specs::Factors::A, year_steps::specs::Filled::factor, year_steps::specs::Filled::paid_of))]
 fn life_of(rows: &Rows, r: usize, i: u64) -> Factors
     requires { Table rows.now × (i ≤ 2000) }
     ensures { Filled (Factors-as-A (basis rows.now r i)) 120 15 result }
@@ -54,6 +55,7 @@ pub fn deferred_annuity(rows: Rows, r: usize, pay: u64, i: u64) -> Factors
 }
 
 // Rule 8.6: T(k,e) for each age up to e.
+#[tactic(auto, unfolding(factors::specs::Factors::T, year_steps::specs::Filled::factor, year_steps::specs::Filled::paid_of))]
 pub fn working_annuity(rows: Rows, r: usize, i: u64, e: usize) -> Factors
     requires { Table rows × (i ≤ 2000) × (15 ≤ e) × (e ≤ 120) }
     ensures { Filled (λ k. T (basis rows r i) k e) e 15 result }
@@ -62,6 +64,7 @@ pub fn working_annuity(rows: Rows, r: usize, i: u64, e: usize) -> Factors
 }
 
 // Rule 8.7: Z(k,e) for each age up to e.
+#[tactic(auto, unfolding(factors::specs::Factors::Z, year_steps::specs::Filled::factor, year_steps::specs::Filled::paid_of))]
 pub fn pay_annuity(rows: Rows, r: usize, i: u64, e: usize) -> Factors
     requires { Table rows × (i ≤ 2000) × (15 ≤ e) × (e ≤ 120) }
     ensures { Filled (λ k. Z (basis rows r i) k e) e 15 result }

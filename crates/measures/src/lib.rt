@@ -59,8 +59,7 @@ fn earned(p: Plan, rows: &Rows, m: Member, method: Method, k: usize, past: u64) 
         Method::AB => accrued_benefit(p, rows, m, k as u64),
         Method::BD => k as u64 - m.entry,
         Method::BP => weights_from_entry(p, rows, m, k),
-        Method::CD => past,
-        Method::CP => past,
+        Method::CD | Method::CP => past,
     }
 }
 
@@ -82,10 +81,8 @@ fn adds(p: Plan, rows: &Rows, m: Member, method: Method, k: usize, earned: u64) 
 {
     match method {
         Method::AB => accrued_benefit(p, rows, m, k as u64 + 1) - earned,
-        Method::BD => 1,
-        Method::BP => rates::weight(rows, k),
-        Method::CD => 1,
-        Method::CP => rates::weight(rows, k),
+        Method::BD | Method::CD => 1,
+        Method::BP | Method::CP => rates::weight(rows, k),
     }
 }
 
@@ -98,8 +95,7 @@ fn divisor(p: Plan, rows: &Rows, m: Member, method: Method, all: u64) -> u64
         Method::AB => year_steps::S,
         Method::BD => p.retire - m.entry,
         Method::BP => weights_from_entry(p, rows, m, p.retire as usize),
-        Method::CD => all,
-        Method::CP => all,
+        Method::CD | Method::CP => all,
     }
 }
 

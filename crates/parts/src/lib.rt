@@ -48,8 +48,7 @@ fn cost_factor(q: Parts, method: Method, value: u64) -> u64
 {
     match method {
         Method::AB => q.deferred,
-        Method::BD => value,
-        Method::BP => value,
+        Method::BD | Method::BP => value,
         Method::CD => q.benefit * q.entered,
         Method::CP => worth(q.benefit, q.entered) * year_steps::S,
     }
@@ -62,10 +61,7 @@ fn liability_factor(q: Parts, method: Method, value: u64) -> u64
 {
     match method {
         Method::AB => q.deferred,
-        Method::BD => value,
-        Method::BP => value,
-        Method::CD => value,
-        Method::CP => value,
+        Method::BD | Method::BP | Method::CD | Method::CP => value,
     }
 }
 

@@ -29,9 +29,7 @@ fn temporary(p: Plan, rows: &Rows, m: Member, method: Method, e: usize) -> u64
     ensures { result ≡ Temporary·temporary (plan_basis p rows.now) method m.entry e }
 {
     match method {
-        Method::AB => 0,
-        Method::BD => 0,
-        Method::BP => 0,
+        Method::AB | Method::BD | Method::BP => 0,
         Method::CD => working_from_entry(p, rows, m, e),
         Method::CP => pay_from_entry(p, rows, m, e),
     }

@@ -56,6 +56,7 @@ pub fn weights_between(rows: &Rows, a: u64, b: u64) -> u64
 }
 
 // The first of the ages whose pay B(k) rests on: by flat k itself, since it rests on none.
+#[tactic(auto, unfolding(crate::specs::Weights::first_paid))]
 fn first_paid(formula: Formula, average: u64, entry: u64, k: u64) -> u64
     requires { entry ≤ k }
     ensures { result ≡ first_paid formula average entry k }

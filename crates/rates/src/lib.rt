@@ -36,6 +36,7 @@ fn left_by_both(a: u64, b: u64) -> u64
 }
 
 // Rule 8.2, a, by the row of an age: of a million, how many neither die nor are disabled.
+#[tactic(auto, unfolding(crate::specs::Rates::able))]
 fn able(row: [u32; 4]) -> u64
     requires { Sound row }
     ensures { result ≡ Rates·able row }

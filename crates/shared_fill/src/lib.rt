@@ -23,7 +23,7 @@ pub fn fill_shared(p: Plan, rows: Rows, members: &Members, count: usize, worked:
 }
 
 // Works each member's figures into the array from the annuities that are shared. Past the last member the array is left
-// open.
+// open. The loop is `fill_plainly`'s over again: a trait for the two engines, of which this one changes, is longer than both.
 fn fill_from_shared(
     p: Plan,
     rows: &Rows,

@@ -44,6 +44,7 @@ pub enum Amount {
     Weight,
 }
 
+#[tactic(auto, unfolding(crate::specs::Filled::paid_of))]
 fn amount_of(row: [u32; 4], amount: Amount) -> u64
     requires { Sound row }
     ensures { result ≡ paid_of (get_or row 3 0) amount }
@@ -55,7 +56,8 @@ fn amount_of(row: [u32; 4], amount: Amount) -> u64
     }
 }
 
-// Rule 8.9: the factor of each age up to `top`, filled downward from `start` there.
+// Rule 8.9: the factor of each age up to `top`, filled downward from `start` there. Rows, r and i come one by one, as A, G, T and Z
+// have them, who take the rows by value: a struct of the three would be taken apart at each call.
 pub fn fill(rows: &Rows, r: usize, i: u64, amount: Amount, top: usize, start: u64) -> Factors
     requires { Table rows.now × (i ≤ 2000) × (15 ≤ top) × (top ≤ 120) × (start ≤ ages * Factors-as-S) }
     ensures { Filled (factor (basis rows.now r i) amount top start) top 15 result }

@@ -29,7 +29,3 @@ overflow_add-c c = omega (arith, worked c, C_most c.args.i (c.loop.counter + 1))
 
 pub loop-preserved : goal.loop-preserved
 loop-preserved c = worked c
-
-pub returns : goal.returns
-returns c = let all : c.loop.counter ≡ c.args.m = omega arith in
-    rw all at c.loop.invariant

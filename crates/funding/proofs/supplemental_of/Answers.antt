@@ -3,12 +3,6 @@ use borrow.Author.Rules.{rules}
 use Rattle.funding.proofs.FundingLaws.{payment_fits}
 use Rattle.funding.proofs.supplemental_of.Goals as goal
 
-pub certain_annuity-certain-requires : goal.certain_annuity-certain-requires
-certain_annuity-certain-requires c = search rules
-
 pub signed_mul_div_nearest-requires : goal.signed_mul_div_nearest-requires
 signed_mul_div_nearest-requires c = let a = c.args in
     payment_fits a.unfunded.size a.interest a.years c.certain_annuity-certain.ensures c.requires.1 (search rules)
-
-pub returns : goal.returns
-returns c = rw (← c.certain_annuity-certain.ensures) c.signed_mul_div_nearest.ensures

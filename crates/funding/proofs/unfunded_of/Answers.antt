@@ -1,10 +1,6 @@
 -- `funding::unfunded_of` meets its contract.
-use borrow.Author.Rules.{rules}
 use Rattle.funding.proofs.FundingLaws.{overfunded, underfunded}
 use Rattle.funding.proofs.unfunded_of.Goals as goal
-
-pub overflow_sub-result : goal.overflow_sub-result
-overflow_sub-result c = search rules
 
 pub returns-then-liability-assets : goal.returns-then-liability-assets
 returns-then-liability-assets c = overfunded _ _ c.if-liability-assets.true

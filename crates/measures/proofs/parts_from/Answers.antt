@@ -1,16 +1,9 @@
 -- `measures::parts_from` meets its contract.
 use mathlib.Core.Path.{◌∙◌}
-use native.Mathlib.Nat.{le_refl, le_of_lt}
+use native.Mathlib.Nat.{le_of_lt}
 use Rattle.parts.specs.Parts.{parts_at}
 use Rattle.costs.proofs.Needs.{in_table}
 use Rattle.measures.proofs.parts_from.Goals as goal
-
-pub of_age-deferred-requires : goal.of_age-deferred-requires
-of_age-deferred-requires c = in_table c.args.p c.args.rows.now c.args.m c.requires.0 c.args.k c.requires.1 c.requires.2
-
-pub of_age-entered-requires : goal.of_age-entered-requires
-of_age-entered-requires c = let a = c.args in
-    in_table a.p a.rows.now a.m c.requires.0 a.m.entry (le_refl a.m.entry) (le_of_lt c.requires.0.in_range.enters)
 
 pub returns : goal.returns
 unfolding parts_at

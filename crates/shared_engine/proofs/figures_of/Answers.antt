@@ -3,9 +3,6 @@ use mathlib.Core.Path.{◌∙◌}
 use Rattle.parts.proofs.PartLaws.{own_figures}
 use Rattle.shared_engine.proofs.figures_of.Goals as goal
 
-pub parts_at-parts-requires : goal.parts_at-parts-requires
-parts_at-parts-requires c = (c.requires.0, c.requires.0.in_range.past_entry, c.requires.0.in_range.not_past, c.requires.1.deferred, rw c.method_of-method.ensures c.requires.1.filled)
-
 pub figures_from-requires : goal.figures_from-requires
 figures_from-requires c = let a = c.args in
     (own_figures a.p a.rows.now a.m c.requires.0 c.method_of-method.ensures c.parts_at-parts.ensures.value).0

@@ -20,12 +20,6 @@ loop-k-init c = let g = c.args in
     let top = sym (factor_top (basis g.rows.now g.r g.i) g.amount g.top g.start) in
     (c.requires.2, filled_first _ g.top g.start (omega arith) (omega arith) top, top)
 
-pub amount_of-requires : goal.amount_of-requires
-amount_of-requires c = c.requires.0 (c.loop-k.k - 1) (omega arith) (omega arith)
-
-pub step-requires : goal.step-requires
-step-requires c = (c.requires.0 (c.loop-k.k - 1) (omega arith) (omega arith), c.requires.1)
-
 pub overflow_add-f : goal.overflow_add-f
 overflow_add-f c = let g = c.args in
     omega (arith, worked c, factor_most (basis g.rows.now g.r g.i) (basis_fair g.rows.now g.r g.i) g.amount g.top g.start (c.loop-k.k - 1) c.requires.3 (omega arith) c.requires.4 (λ k low high. (c.requires.0 k low high).weight))
@@ -34,7 +28,3 @@ pub loop-k-preserved : goal.loop-k-preserved
 loop-k-preserved c = let l = c.loop-k in
     let next : l.k ≡ l.k - 1 + 1 = omega arith in
     (omega arith, filled_more _ c.args.top (l.k - 1) _ (omega arith) (omega arith) c.requires.3 (worked c) (rw next at l.invariant.1), worked c)
-
-pub returns : goal.returns
-returns c = let low : c.loop-k.k ≡ 15 = omega arith in
-    rw low at c.loop-k.invariant.1

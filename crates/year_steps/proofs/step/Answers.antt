@@ -9,6 +9,3 @@ pub mul_div_nearest-requires : goal.mul_div_nearest-requires
 mul_div_nearest-requires c = let a = c.args in
     let p : c.staying.result ≤ 100 * (10000 + a.i) = omega (arith, leaving_and_staying.staying_most a.row a.r a.k) in
     omega (arith, step_shrinks a.f c.staying.result (100 * (10000 + a.i)) (omega arith) p)
-
-pub returns : goal.returns
-returns c = rw c.staying.ensures at c.mul_div_nearest.ensures

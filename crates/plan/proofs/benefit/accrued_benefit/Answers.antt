@@ -11,13 +11,7 @@ use Rattle.plan.proofs.benefit.accrued_benefit.Goals.{After-first_paid-first}
 first : (c : After-first_paid-first) → let a = c.args in c.first_paid-first.result ≡ first_paid (formula_of a.p.formula) a.p.average a.m.entry a.k
 first c = let a = c.args in c.first_paid-first.ensures ∙ ap (λ (f : Formula). first_paid f a.p.average a.m.entry a.k) c.formula_of.ensures
 
-pub first_paid-first-requires : goal.first_paid-first-requires
-first_paid-first-requires c = c.requires.2
-
 pub weights_between-requires : goal.weights_between-requires
 weights_between-requires c = let a = c.args in
     let ages = paid_ages c.requires.0 c.requires.1 a.k c.requires.2 c.requires.3 (first c) in
     (c.requires.0.table, ages.low, ages.le, ages.high)
-
-pub benefit-requires : goal.benefit-requires
-benefit-requires c = (c.requires.0, c.requires.1, c.requires.2, c.requires.3, first c.before, c.weights_between.ensures)

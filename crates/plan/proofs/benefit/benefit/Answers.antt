@@ -1,27 +1,17 @@
 -- `plan::benefit::benefit` meets its contract.
 use mathlib.Core.Path.{◌≡◌, sym, ap, ◌∙◌}
-use Prim.Native.Nat.{ℕ, ◌-◌, ◌*◌, ◌≤◌}
-use native.Mathlib.Nat.{mul-le-mul}
+use Prim.Native.Nat.{ℕ, ◌-◌, ◌*◌}
 use native.Mathlib.Omega.{arith}
 use Rattle.rounding.specs.Nearest.{nearest}
 use Rattle.rates.specs.Table.{weight}
 use Rattle.plan.specs.Weights.{summed}
 use Rattle.plan.proofs.BenefitLaws.{not_flat, flat_career, flat_final, final_code, none_at_entry, flat_benefit, career_benefit, final_benefit}
-use Rattle.plan.proofs.BenefitNeeds.{weights_most, all_paid, last_paid, paid_ages, age_low, age_high, now_some, now_most, years_most, last_ages}
+use Rattle.plan.proofs.BenefitNeeds.{weights_most, all_paid, last_paid, paid_ages, now_some, now_most, years_most, last_ages}
 use Rattle.plan.proofs.benefit.benefit.Goals as goal
 
 pub returns-then-k-entry : goal.returns-then-k-entry
 returns-then-k-entry c = let a = c.args in
     sym (none_at_entry a.p a.rows.now a.m (now_some c.requires.0 c.requires.1) a.k c.if-k-entry.true)
-
-pub weight-now-requires : goal.weight-now-requires
-weight-now-requires c = (omega (arith, age_low c.requires.0 c.requires.1), omega (arith, age_high c.requires.0 c.requires.1))
-
--- a unit for each year of service fits a word, and so would one for each year of age: a wrong count is refused as a benefit
-pub overflow_mul-result : goal.overflow_mul-result
-overflow_mul-result c = let unit = c.requires.0.head.flat_unit in
-    let k : c.args.k ≤ 75 = omega (arith, c.requires.3, c.requires.0.head.retire.1) in
-    omega (arith, mul-le-mul {n₂ = 100000} {m₂ = 60} unit (years_most c.requires.0 c.requires.1 c.args.k c.requires.3), mul-le-mul {n₂ = 100000} {m₂ = 75} unit k)
 
 pub career-requires : goal.career-requires
 career-requires c = let a = c.args in
