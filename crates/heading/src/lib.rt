@@ -17,7 +17,8 @@ use rules::terms::term_rule;
 use stretches::{Next, at_line, plan_line};
 use values::{unread, values_to_amount, whole_values};
 
-// Rules 2.4 and 5.4: the code of the formula, none for another word.
+// Rules 2.4 and 5.4: the code of the formula, none for another word. By `==`: of a `match` on byte strings the check asks a proof
+// for each byte of each word.
 fn formula_code(line: &[u8]) -> Option<u64>
     ensures { coded result ≡ formula_word line.now }
 {

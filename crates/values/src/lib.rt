@@ -48,6 +48,7 @@ fn line<const N: usize, const AMOUNT: bool>(s: &[u8], key: &[u8]) -> Line<N>
     if !s.starts_with(key) {
         return Err(unread(s));
     }
+    // Not by `ok_or_else`: the proof doesn't see what its closure gives.
     match values_at::<N, AMOUNT>(s, key.len()) {
         Some(read) => Ok(read),
         None => Err(unread(s)),
