@@ -41,7 +41,7 @@ lists c a =
     let front = list_front c.amends refl few in
     record { room = omega (arith, few, list_size c.amends); list = rw front list; valued = rw front (arrays c a) }
 
-same_outline : {a b : Outline} → values a ≡ values b → a ≡ b
+pub same_outline : {a b : Outline} → values a ≡ values b → a ≡ b
 same_outline e = cc
 
 accepted_of : (o : Outcome Case) {p : Plan} {k n : ℕ} {amendments rows members : List (List ℕ)} (old_amendments old_rows old_members : List (List ℕ)) → ((c : Case) → o ≡ values c → AcceptedCase c) → accepted p k n ≡ accepting o → amendments ≡ amendments_after o old_amendments → rows ≡ rows_after o old_rows → members ≡ members_after o old_members → AcceptedLists p k n amendments rows members

@@ -18,6 +18,8 @@ use Rattle.stretches.proofs.ArrayLaws.{filled_front}
 use Rattle.amend_lines.specs.Array.{list_array}
 use Rattle.amend_lines.proofs.ArrayLaws.{list_front}
 use Rattle.members.specs.Array.{array_of}
+use Rattle.whole_walk.specs.declared.Outline.{Outline}
+use Rattle.casefile.proofs.Arrays.{same_outline}
 use Rattle.casefile.specs.Answers.{accepting_of, accepted, accepting}
 use Rattle.casefile.specs.Stored.{amendments_after, rows_after, members_after}
 use Rattle.judging.specs.Refusing.{plain_case}
@@ -49,9 +51,10 @@ module _ (room : ℕ) (s : List ℕ) where
   handed : (o : Outcome Case) → accepting_of s ≡ o → {p : Plan} {k n : ℕ} {amendments rows members : List (List ℕ)} (old_amendments old_rows old_members : List (List ℕ)) → accepted p k n ≡ accepting o → amendments ≡ amendments_after o old_amendments → rows ≡ rows_after o old_rows → members ≡ members_after o old_members → file_of room (plain_case p (take k amendments) rows (take n members)) ≡ fitting room s
   unfolding accepting_of
   handed (values c) accepted {p} {k} {n} old_amendments old_rows old_members answer list table array =
-      let terms : p ≡ c.plan = cc in
-      let many : k ≡ length c.amends = cc in
-      let count : n ≡ length c.members = cc in
+      let same = same_outline answer in
+      let terms : p ≡ c.plan = ap (λ (o : Outline). o.plan) same in
+      let many : k ≡ length c.amends = ap (λ (o : Outline). o.amendments) same in
+      let count : n ≡ length c.members = ap (λ (o : Outline). o.members) same in
       rw (terms, many, count, list, table, array) (ap (file_of room) (fronts c (accepted_keeps s c accepted).1) ∙ clean_copy room s c accepted)
   handed (refusal j l) accepted old_amendments old_rows old_members answer list table array =
       let z : ◌≡◌ {A = ℕ} 0 1 = cc in absurd (omega arith)

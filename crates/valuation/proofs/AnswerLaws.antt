@@ -27,9 +27,10 @@ use Rattle.walk.specs.Walk.{Case, valued_plan}
 use Rattle.amend_lines.specs.Array.{list_array}
 use Rattle.amend_lines.proofs.ArrayLaws.{list_front}
 use Rattle.walk.specs.Kept.{AcceptedCase, nobody}
+use Rattle.whole_walk.specs.declared.Outline.{Outline}
 use Rattle.casefile.specs.Answers.{accepting_of, accepted, accepting}
 use Rattle.casefile.specs.Stored.{id_before_at, amendments_after, rows_after, members_after, AcceptedArrays}
-use Rattle.casefile.proofs.Arrays.{accepted_case}
+use Rattle.casefile.proofs.Arrays.{same_outline, accepted_case}
 use Rattle.all_figures.specs.Worked.{members_in, AcceptedMembers, AreWorked}
 use Rattle.all_figures.proofs.WorkedLaws.{worked_small}
 use Rattle.report.specs.Lines.{printed, refusal_line}
@@ -70,11 +71,12 @@ array_list c a =
 
 valued_by : (o : Outcome Case) (room : ℕ) {p : Plan} {k n : ℕ} {amendments rows members : List (List ℕ)} (old_amendments old_rows old_members : List (List ℕ)) → ((c : Case) → o ≡ values c → AcceptedCase c) → accepted p k n ≡ accepting o → amendments ≡ amendments_after o old_amendments → rows ≡ rows_after o old_rows → members ≡ members_after o old_members → fitting room (printed (as_valued p (amendments_from (take k amendments))) rows (members_in members n)) ≡ and_then o (λ c. fitting room (printed (valued_plan c) c.rows c.members))
 valued_by (values c) room {p} {k} {n} old_amendments old_rows old_members is said list table array =
-    let terms : p ≡ c.plan = cc in
-    let many : k ≡ length c.amends = cc in
-    let count : n ≡ length c.members = cc in
+    let same = same_outline said in
+    let terms : p ≡ c.plan = ap (λ (o : Outline). o.plan) same in
+    let many : k ≡ length c.amends = ap (λ (o : Outline). o.amendments) same in
+    let count : n ≡ length c.members = ap (λ (o : Outline). o.members) same in
     rw (terms, many, count, list, table, array, array_members c.members (is c refl).few, array_list c (is c refl))
-valued_by (refusal number line) room old_amendments old_rows old_members is said list table array =
+valued_by (refusal n l) room old_amendments old_rows old_members is said list table array =
     let z : ◌≡◌ {A = ℕ} 0 1 = cc in absurd (omega arith)
 
 refused_by : (o : Outcome Case) (more : Case → Outcome (List ℕ)) {number line : ℕ} → refusal number line ≡ accepting o → and_then o more ≡ refusal number line

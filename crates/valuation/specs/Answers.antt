@@ -1,5 +1,5 @@
 -- The answers for a case file: that of `value_case`, and what the program prints.
-use Rattle.std.specs.Prelude.{◌≡◌, cond, List, ℕ, leb, length}
+use Rattle.std.specs.Prelude.{cond, List, ℕ, leb, length}
 use Rattle.rules.specs.Outcome.{Outcome, values, refusal, and_then}
 use Rattle.walk.specs.Walk.{valued_plan}
 use Rattle.casefile.specs.Answers.{accepting_of}

@@ -12,7 +12,7 @@ use Rattle.amendments.specs.Force.{amendments_from}
 use Rattle.amendments.proofs.Keeping.{list_kept, few_listed}
 use Rattle.rule_order.proofs.ValuedLaws.{amended_kept}
 use Rattle.plan.specs.declared.Plan.{Plan}
-use Rattle.rules.specs.Outcome.{refusal as refused-at}
+use Rattle.rules.specs.Outcome.{values, refusal as refused-at}
 use Rattle.walk.specs.Walk.{Case}
 use Rattle.printing.specs.Puts.{PutsAt}
 use Rattle.judging.specs.Refusing.{plain_case, case_refusal}
@@ -21,7 +21,6 @@ use Rattle.judging.proofs.Exactly.{refused_exactly}
 use Rattle.written.specs.Written.{written}
 use Rattle.written.specs.Statements.{most_written}
 use Rattle.written.proofs.Lengths.{written_most}
-use Rattle.fitting.specs.declared.Answer.TheVariants.{Written, Refused}
 use Rattle.fitting.specs.Fitting.{answer, buffer}
 use Rattle.fitting.proofs.FittingLaws.{too_long_by, written_by}
 use Rattle.writer.specs.Files.{file_of}
@@ -40,7 +39,7 @@ surely_fits c room full none enough =
 
 module _ (c : Case) (old : List ℕ) where
   -- refused by a rule
-  pub file_refused : {refusal : ℕ} → refusal ≡ case_refusal c → (refusal ≡ 0 → ⊥) → (Refused refusal 0 ≡ answer (file_of (length old) c)) × (old ≡ buffer (file_of (length old) c) old)
+  pub file_refused : {refusal : ℕ} → refusal ≡ case_refusal c → (refusal ≡ 0 → ⊥) → (refused-at refusal 0 ≡ answer (file_of (length old) c)) × (old ≡ buffer (file_of (length old) c) old)
   unfolding file_of
   file_refused {refusal} is some =
       let refused = ne_eqb refusal 0 some in
@@ -48,11 +47,11 @@ module _ (c : Case) (old : List ℕ) where
       rw outcome (refl, refl)
 
   -- or else by the room
-  pub file_too_long : {fits : Bool} → case_refusal c ≡ 0 → fits ≡ leb (length (written c)) (length old) → fits ≡ false → (Refused 30 0 ≡ answer (file_of (length old) c)) × (old ≡ buffer (file_of (length old) c) old)
+  pub file_too_long : {fits : Bool} → case_refusal c ≡ 0 → fits ≡ leb (length (written c)) (length old) → fits ≡ false → (refused-at 30 0 ≡ answer (file_of (length old) c)) × (old ≡ buffer (file_of (length old) c) old)
   unfolding file_of
   file_too_long none is not = rw none (too_long_by old (written c) is not)
 
   -- or written
-  pub file_written : {fits : Bool} {out : List ℕ} {end : ℕ} → case_refusal c ≡ 0 → fits ≡ leb (length (written c)) (length old) → fits ≡ true → PutsAt old 0 (written c) out end → (Written end ≡ answer (file_of (length old) c)) × (out ≡ buffer (file_of (length old) c) old)
+  pub file_written : {fits : Bool} {out : List ℕ} {end : ℕ} → case_refusal c ≡ 0 → fits ≡ leb (length (written c)) (length old) → fits ≡ true → PutsAt old 0 (written c) out end → (values end ≡ answer (file_of (length old) c)) × (out ≡ buffer (file_of (length old) c) old)
   unfolding file_of
   file_written none is fits w = rw none (written_by is fits w)

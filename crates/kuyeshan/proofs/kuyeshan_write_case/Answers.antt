@@ -11,4 +11,4 @@ pub returns : goal.returns
 returns c = let g = c.args in
     let a = rw c.from-p.ensures at c.write_case-file.ensures in
     let told = told_written (file_of (length g.out.now) (plain_case (plan_from g.plan.now) g.amendments.now g.rows.now g.members.now)) a.value c.number_told.ensures refl c.written_told.ensures in
-    record { value = told.0; out_after = a.out_after; written_after = told.1.1 }
+    record { value = told.0; out_after = a.out_after; written_after = told.2 }

@@ -10,6 +10,7 @@ use Rattle.casefile.proofs.Arrays.{accepted_arrays}
 use Rattle.all_figures.specs.Worked.{members_in}
 use Rattle.report.specs.Lines.{printed}
 use Rattle.fitting.specs.Fitting.{fitting, answer, buffer}
+use Rattle.rules.proofs.RefusalLaws.{told_at_line}
 use Rattle.valuation.proofs.AnswerLaws.{accepted_members, valued_accepted, valued_refused}
 use Rattle.valuation.proofs.value_case_by.Goals as goal
 use Rattle.valuation.proofs.value_case_by.Goals.{In_ok-outline}
@@ -25,16 +26,17 @@ abbrev no_members : List (List ℕ)
 no_members = replicate 1000 (replicate 5 0)
 
 -- what they hold after it
-lists : (c : In_ok-outline) → AcceptedLists c.in_ok-outline.outline.plan c.in_ok-outline.outline.amendments c.in_ok-outline.outline.members c.accept_case.new.amendments c.accept_case.new.rows c.accept_case.new.members
+lists : (c : In_ok-outline) → let o = c.in_ok-outline.outline in AcceptedLists o.plan o.amendments o.members c.accept_case.new.amendments c.accept_case.new.rows c.accept_case.new.members
 lists c =
+    let o = c.in_ok-outline.outline in
     let a = c.in_ok-outline.ensures in
-    accepted_arrays c.args.case.now _ _ _ c.accept_case.new.amendments no_list c.accept_case.new.rows zero_rows c.accept_case.new.members no_members a.answer a.amendments_after a.rows_after a.members_after
+    accepted_arrays c.args.case.now o.plan o.amendments o.members c.accept_case.new.amendments no_list c.accept_case.new.rows zero_rows c.accept_case.new.members no_members a.answer a.amendments_after a.rows_after a.members_after
 
 pub slice_bounds-amendments-end : goal.slice_bounds-amendments-end
-slice_bounds-amendments-end c = (lists c).room
+slice_bounds-amendments-end c = (lists (goal.at.slice_bounds-amendments-end c).In_ok-outline).room
 
-pub slice_bounds-as_valued-end : goal.slice_bounds-as_valued-end
-slice_bounds-as_valued-end c = simp length-take (omega (arith, (lists (goal.at.slice_bounds-as_valued-end c).In_ok-outline).room))
+pub slice_bounds-listed-end : goal.slice_bounds-listed-end
+slice_bounds-listed-end c = simp length-take (omega (arith, (lists (goal.at.slice_bounds-listed-end c).In_ok-outline).room))
 
 pub as_valued-valued-requires : goal.as_valued-valued-requires
 as_valued-valued-requires c = (lists (goal.at.as_valued-valued-requires c).In_ok-outline).list
@@ -42,16 +44,18 @@ as_valued-valued-requires c = (lists (goal.at.as_valued-valued-requires c).In_ok
 pub value_accepted-requires : goal.value_accepted-requires
 value_accepted-requires c = rw c.as_valued-valued.ensures (accepted_members (lists (goal.at.value_accepted-requires c).In_ok-outline).valued)
 
-pub returns-in-Accepted : goal.returns-in-Accepted
-returns-in-Accepted c = let g = c.args in
-    let a = c.in_ok-outline.ensures in
-    let v = c.value_accepted.ensures in
-    let is = valued_accepted g.case.now (length g.out.now) {amendments = c.accept_case.new.amendments} {rows = c.accept_case.new.rows} {members = c.accept_case.new.members} no_list zero_rows no_members a.answer a.amendments_after a.rows_after a.members_after in
-    let by = c.as_valued-valued.ensures in
-    let valued = ap (λ (p : Plan). fitting (length g.out.now) (printed p c.accept_case.new.rows (members_in c.accept_case.new.members c.in_ok-outline.outline.members))) by ∙ is in
-    record { value = v.value ∙ ap answer valued; out_after = v.out_after ∙ ap (λ o. buffer o g.out.now) valued }
+pub returns-in_err-outline : goal.returns-in_err-outline
+returns-in_err-outline c = let g = c.args in
+    let told = told_at_line _ c.from_residual.result c.from_residual.ensures.1 in
+    let is = valued_refused g.case.now (length g.out.now) c.in_err-outline.ensures.answer in
+    record { value = told ∙ ap answer (sym is); out_after = ap (λ o. buffer o g.out.now) (sym is) }
 
-pub returns-in-Refused : goal.returns-in-Refused
-returns-in-Refused c = let g = c.args in
-    let is = valued_refused g.case.now (length g.out.now) (sym c.in-Refused.is ∙ c.accept_case.ensures.value) in
-    record { value = ap answer (sym is); out_after = ap (λ o. buffer o g.out.now) (sym is) }
+pub returns : goal.returns
+returns c = let g = c.args in
+    let a = c.in_ok-outline.ensures in
+    let o = c.in_ok-outline.outline in
+    let v = c.value_accepted.ensures in
+    let is = valued_accepted g.case.now (length g.out.now) {p = o.plan} {k = o.amendments} {n = o.members} {amendments = c.accept_case.new.amendments} {rows = c.accept_case.new.rows} {members = c.accept_case.new.members} no_list zero_rows no_members a.answer a.amendments_after a.rows_after a.members_after in
+    let by = c.as_valued-valued.ensures in
+    let valued = ap (λ (p : Plan). fitting (length g.out.now) (printed p c.accept_case.new.rows (members_in c.accept_case.new.members o.members))) by ∙ is in
+    record { value = v.value ∙ ap answer valued; out_after = v.out_after ∙ ap (λ o. buffer o g.out.now) valued }
