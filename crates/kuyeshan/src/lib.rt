@@ -29,7 +29,7 @@ fn number_told<T>(answer: &Result<T, Refused>) -> u64
 {
     match answer {
         Ok(_) => 0,
-        Err(refused) => refused.refusal.number(),
+        Err(e) => e.refusal.number(),
     }
 }
 
@@ -39,7 +39,7 @@ fn line_told<T>(answer: &Result<T, Refused>) -> u64
 {
     match answer {
         Ok(_) => 0,
-        Err(refused) => refused.line,
+        Err(e) => e.line,
     }
 }
 
@@ -178,11 +178,13 @@ pub extern "C" fn kuyeshan_value_member(
 {
     let p = Plan::from(*plan);
     let m = Member::from(*member);
-    let valued = plain_engine::value_member(p, amendments, *rows, m);
-    if let Ok(f) = valued {
-        *figures = [f.benefit, f.value, f.cost, f.liability];
+    match plain_engine::value_member(p, amendments, *rows, m) {
+        Ok(f) => {
+            *figures = [f.benefit, f.value, f.cost, f.liability];
+            0
+        }
+        Err(refused) => refused.refusal.number(),
     }
-    number_told(&valued)
 }
 
 // Rules 5.7 and 13.6: writes the case file of a plan with its amendments, its rows and its members, all of them plain numbers, at the
