@@ -26,12 +26,12 @@ pub fn figures_at(worked: &Worked, j: usize) -> Figures
     requires { j < most_members }
     ensures { result ≡ figures_in worked.now j }
 {
-    let f = worked[j];
+    let [benefit, value, cost, liability] = worked[j];
     Figures {
-        benefit: f[0],
-        value: f[1],
-        cost: f[2],
-        liability: f[3],
+        benefit,
+        value,
+        cost,
+        liability,
     }
 }
 

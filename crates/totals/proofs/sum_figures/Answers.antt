@@ -1,15 +1,10 @@
 -- `totals::sum_figures` meets its contract. The loop's invariant: the sums of the members so far.
-use mathlib.Core.Path.{◌≡◌}
-use Prim.Native.Nat.{◌-◌}
 use native.Mathlib.Omega.{arith}
 use Rattle.totals.proofs.TotalLaws.{sum_none, sum_next, sum_fits}
 use Rattle.totals.proofs.sum_figures.Goals as goal
 
 pub loop-j-init : goal.loop-j-init
 loop-j-init c = let w = c.args.worked.now in (sum_none (λ f. f.value) w, sum_none (λ f. f.cost) w, sum_none (λ f. f.liability) w)
-
-pub figures_at-f-requires : goal.figures_at-f-requires
-figures_at-f-requires c = omega (arith, c.requires.0)
 
 pub overflow_add-value : goal.overflow_add-value
 overflow_add-value c = let l = c.loop-j in omega (arith, sum_fits (λ f. f.value) _ _ _ c.loop-j-test.true c.requires.0 (λ i h. (c.requires.1 i h).1) l.invariant.0 c.figures_at-f.ensures)
@@ -25,6 +20,3 @@ loop-j-preserved c = let w = c.args.worked.now in
     let l = c.loop-j in
     let is = c.figures_at-f.ensures in
     (sum_next (λ f. f.value) w l.j l.invariant.0 is, sum_next (λ f. f.cost) w l.j l.invariant.1 is, sum_next (λ f. f.liability) w l.j l.invariant.2 is)
-
-pub returns : goal.returns
-returns c = let l = c.loop-j in let all : l.j ≡ c.args.count = omega arith in rw (l.invariant.0, l.invariant.1, l.invariant.2, all)

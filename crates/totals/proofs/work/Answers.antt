@@ -4,9 +4,6 @@ use Rattle.totals.proofs.TotalLaws.{sums_totals}
 use Rattle.all_figures.proofs.WorkedLaws.{worked_small}
 use Rattle.totals.proofs.work.Goals as goal
 
-pub fill_figures-requires : goal.fill_figures-requires
-fill_figures-requires c = c.requires
-
 pub sum_figures-requires : goal.sum_figures-requires
 sum_figures-requires c = (c.requires.few, worked_small c.args.p c.args.rows c.args.members.now c.fill_figures.new.worked c.args.count c.requires c.fill_figures.ensures)
 
