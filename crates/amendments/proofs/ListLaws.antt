@@ -10,7 +10,7 @@ use native.Mathlib.Numerals.{add-one}
 use borrow.Author.Tests.{eq-eqb, ne_eqb}
 use Rattle.plan.specs.declared.Amendment.{Amendment}
 use Rattle.rules.proofs.RuleLaws.{first_refuses, first_passes, first_alone}
-use Rattle.plan.specs.Numbers.{amendment_from, fields_of}
+use Rattle.plan.specs.Numbers.{amendment_from}
 use Rattle.amendments.specs.Force.{amendments_from, listed, stands, joined, in_force_after, in_force, additions}
 use Rattle.amendments.specs.Judging.{last_number, amendment_refusal, each_refusal}
 

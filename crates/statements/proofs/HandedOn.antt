@@ -1,6 +1,6 @@
 -- What accepting hands on is the case, so that writing it gives the file.
 use Prim.Native.Nat.{ℕ, ◌≤◌}
-use mathlib.Core.Path.{◌≡◌, refl, sym, ap, subst, ◌∙◌}
+use mathlib.Core.Path.{◌≡◌, refl, ap, ◌∙◌}
 use mathlib.Core.List.{List, [], ◌∷◌, map}
 use lib.ListN.{length, take, replicate, length-map}
 use native.Mathlib.Omega.{arith}
