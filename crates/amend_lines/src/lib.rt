@@ -67,7 +67,7 @@ fn unit_refusal(ranges: bool, more: bool, p: Plan, list: &[[u64; 4]]) -> Result<
 }
 
 // What the rules say of an amendment after the n of a list, where `more` says whether one more follows. Where nothing refuses it
-// it is put after them; after a refusal the list is left open.
+// it is put after them; after a refusal the list is left open. The list is an array and n, since there is no heap.
 fn listed_refusal(
     ranges: bool,
     p: Plan,
@@ -89,7 +89,7 @@ fn listed_refusal(
 }
 
 // Reads the amendments from a line on, up to the first line that is none, and settles their ranges too where that is asked for,
-// under a plan with the heading's unit. After a refusal the list is left open.
+// under a plan with the heading's unit. After a refusal the list is left open. A `while`, since the bytes say how many there are.
 pub fn amend_lines(
     s: &[u8],
     first: u64,

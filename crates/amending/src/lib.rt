@@ -18,6 +18,7 @@ use rules::{between, unless};
 fn listed(number: u64, list: &[[u64; 4]]) -> bool
     ensures { result ≡ Force·listed number (amendments_from list.now) }
 {
+    // Not by `any`: the proof of its closure didn't close.
     for &a in list {
         if Amendment::from(a).number == number {
             return true;

@@ -88,7 +88,7 @@ pub(crate) fn write_rows(page: &mut Page, rows: Rows)
     }
 }
 
-// Writes the members.
+// Writes the members. The loop is write_amendments' over other lines: one over both would be handed the writer, and be no shorter.
 pub(crate) fn write_members(page: &mut Page, members: &[[u64; 5]])
     requires { (length members.now ≤ most_members) × (page.old.at + 124000 < 2 ^ 64) }
     ensures puts { Puts page.old (closed_lines (map member_line (map member_from members.now))) page.new }

@@ -77,7 +77,7 @@ fn start(w: Wide, d: u64, v: u64) -> Taken
     one
 }
 
-// Steps until one word is left, which it mostly is from the start.
+// Steps until one word is left, which it mostly is from the start. A `while`, since nothing counts the steps.
 fn finish(mut t: Taken, d: u64, v: u64) -> Division
     requires { Reciprocal d v × (Short (undivided d t) d) }
     ensures { DivisionOf (undivided d t) d result }

@@ -15,7 +15,7 @@ fn is_digit(c: u8) -> bool
     ensures value { result ≡ is_digit c }
     ensures le_c { result ≡ true → (48 ≤ c) × (c ≤ 57) }
 {
-    if c < 48 { false } else { c <= 57 }
+    48 <= c && c <= 57
 }
 
 // Rule 1.3: the whole number from place i up to the first byte b, which is no digit. A place instead of a slice, and the
@@ -59,7 +59,7 @@ pub fn amount_at(s: &[u8], i: usize) -> Option<Field>
     })
 }
 
-// The last value of a line.
+// The last value of a line. A flag, by which the definition and the readers of lines choose too.
 pub fn last_at(s: &[u8], i: usize, amount: bool) -> Option<Field>
     ensures { result ≡ field_of (last_of amount) 10 i s.now }
 {

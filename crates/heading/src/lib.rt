@@ -59,7 +59,8 @@ fn line_end(s: &[u8]) -> Option<usize>
     s.iter().position(|b| *b == 10)
 }
 
-// The line of the formula or of the method: the code of its word.
+// The line of the formula or of the method: the code of its word. A flag, as the definition has it: of a function handed in
+// each clause would have to say what it gives.
 fn word_line(s: &[u8], method: bool) -> Line<1>
     ensures { result ≡ line_of (word_of method) s.now }
 {

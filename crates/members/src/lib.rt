@@ -42,7 +42,7 @@ fn end_count(n: u64, count: u64, line: u64, after: usize) -> Result<u64, Refused
 }
 
 // Reads the members from a line on into the array, and the end, and counts them; and settles their ranges too where that is
-// asked for. After a refusal the array is left open.
+// asked for. After a refusal the array is left open. A `loop`, since the bytes say how many there are.
 pub fn member_lines(
     s: &[u8],
     first: u64,

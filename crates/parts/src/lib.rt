@@ -81,7 +81,7 @@ fn share(factor: u64, part: u64, whole: u64) -> u64
     rounding::mul_div_nearest(factor, part, whole)
 }
 
-// Rule 5.4: the method of a code.
+// Rule 5.4: the method of a code that is accepted. No `From`, since any other code passes for CP too.
 #[tactic(auto, unfolding(costs::specs::Valuation::method_of))]
 pub fn method_of(code: u64) -> Method
     ensures { result ≡ method_of code }

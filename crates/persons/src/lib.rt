@@ -50,7 +50,7 @@ impl Persons {
         line == 0 || self.sums[line - 1][0] == person
     }
 
-    // The cell at which a person's search ends.
+    // The cell at which a person's search ends. A `while`, since what is stored says how many steps it takes.
     fn find(&self, person: u64) -> usize
         requires { Searchable self.now.cells }
         ensures { Found self.now.cells self.now.sums person result }

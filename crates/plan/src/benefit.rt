@@ -9,6 +9,7 @@ ghost use Rattle.plan.specs.Ranges.{PlanRanges, InRange};
 use crate::{Formula, Member, Plan};
 use rates::{FIRST_AGE, Rows, weight};
 
+// The formula of a code that is accepted. No `From`, since any other code passes for final too.
 #[tactic(auto, unfolding(crate::specs::Benefit::formula_of))]
 fn formula_of(code: u64) -> Formula
     ensures { result ≡ formula_of code }

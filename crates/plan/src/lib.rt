@@ -32,6 +32,7 @@ pub struct Plan {
     pub retire: u64,
     // Rule 2.10: how many times a year a pension is paid. What a member earns is its salary.
     pub pay: u64,
+    // A code, and the method too: C hands in any number, and one that is no code is refused.
     pub formula: u64,
     pub unit: u64,
     pub average: u64,
@@ -75,5 +76,5 @@ pub type Amendments = [[u64; 4]; MOST_AMENDMENTS];
 // Rule 4.1: so many members at most.
 pub const MOST_MEMBERS: usize = 1_000;
 
-// The members, each by its id, person, entry age, age and salary.
+// The members, each by its id, person, entry age, age and salary. Numbers in fixed memory, as C lends them.
 pub type Members = [[u64; 5]; MOST_MEMBERS];

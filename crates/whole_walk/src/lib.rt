@@ -31,7 +31,8 @@ pub struct Outline {
 }
 
 // One walk over the lines, for their form alone or for their ranges too. The arrays are left open after a refusal, and
-// the rows where the ranges are not settled.
+// the rows where the ranges are not settled. `ranges` is a flag, as the definition has it: the rules as a closure would be handed
+// through the same functions, and each would have to say what it gives.
 pub fn walk_lines(
     case: &[u8],
     ranges: bool,
