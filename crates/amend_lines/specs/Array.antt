@@ -1,4 +1,4 @@
--- The array of the amendments: an enum holds no array.
+-- The array of the amendments, which is lent.
 use Rattle.std.specs.Prelude.{ℕ, List, map, replicate}
 use Rattle.plan.specs.declared.Amendment.{Amendment}
 use Rattle.plan.specs.Numbers.{fields_of}

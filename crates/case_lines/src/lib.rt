@@ -34,5 +34,5 @@ pub fn write_case_lines(
     write_rows(&mut page, *rows);
     write_members(&mut page, members);
     write_whole_line(&mut page, b"end=", members.len() as u64);
-    page.at()
+    page.at
 }

@@ -1,4 +1,4 @@
--- What the caller's three arrays hold: an enum holds no array.
+-- What the caller's three arrays hold: it lends them, and the answer has none.
 use Rattle.std.specs.Prelude.{ℕ, zero, suc, ◌≤◌, ◌<◌, ◌≡◌, List, length, take}
 use Rattle.plan.specs.declared.Plan.{Plan}
 use Rattle.rule_order.specs.Acceptance.{plan_refusal, member_refusal}

@@ -9,7 +9,7 @@ use Rattle.factors.specs.Basis.{Basis}
 use Rattle.factors.specs.Factors.{T, Z}
 use Rattle.year_steps.specs.declared.Amount.TheVariants.{One, Weight}
 use Rattle.year_steps.specs.Filled.{paid_of, factor}
-use Rattle.columns.specs.Columns.{FilledColumns, ColumnsKept}
+use Rattle.columns.specs.Columns.{FilledColumns}
 
 -- none is marked at first
 pub columns_none : (F : (k e : ℕ) → ℕ) (columns : List (List ℕ)) → length columns ≡ 61 → FilledColumns F columns (replicate 61 false)
@@ -18,20 +18,6 @@ columns_none F columns wide =
       width = wide;
       places = refl;
       filled = λ e low high marked. absurd (let z : ◌≡◌ {A = Bool} false true = sym (get_or-replicate 61 (e - 15) false false (omega arith)) ∙ marked in let zz : ◌≡◌ {A = ℕ} 0 1 = cc in omega arith);
-    }
-
--- ---- what is filled stays
-pub kept_all : (columns : List (List ℕ)) (marks : List Bool) → ColumnsKept columns marks columns marks
-kept_all columns marks = record { marked = λ e m. m; same = λ e m. refl }
-
-pub as_they_were : {F : (k e : ℕ) → ℕ} {columns : List (List ℕ)} {marks : List Bool} → FilledColumns F columns marks → FilledColumns F columns marks × ColumnsKept columns marks columns marks
-as_they_were {columns = columns} {marks} filled = (filled, kept_all columns marks)
-
-pub kept_twice : {c c' c'' : List (List ℕ)} {m m' m'' : List Bool} → ColumnsKept c m c' m' → ColumnsKept c' m' c'' m'' → ColumnsKept c m c'' m''
-kept_twice first second =
-    record {
-      marked = λ e h. second.marked e (first.marked e h);
-      same = λ e h. second.same e (first.marked e h) ∙ first.same e h;
     }
 
 -- ---- T and Z are cases of the one factor: that of one each year, rule 8.6, and that of the age's weight, rule 8.7

@@ -70,10 +70,6 @@ pub record Run (s : List ℕ) (i j n : ℕ) : Type 0 where
   pub long : j ≡ i + length text
   pub few : length text ≤ 12
 
-pub run_none : (s : List ℕ) (i : ℕ) → Run s i i 0
-run_none s i =
-    record { text = []; all = refl; writes = refl; split = refl; long = omega arith; few = omega arith }
-
 pub run_small : {s : List ℕ} {i j n : ℕ} (r : Run s i j n) → n < 1000000000000
 run_small r = digits_small r.text r.all r.few r.writes
 

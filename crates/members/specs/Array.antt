@@ -1,4 +1,4 @@
--- The array of the members: an enum holds no array.
+-- The array of the members, which is lent.
 use Rattle.std.specs.Prelude.{ℕ, List, [], map, get_or, replicate}
 use Rattle.plan.specs.declared.Member.{Member}
 use Rattle.plan.specs.Numbers.{member_from, numbers_of}

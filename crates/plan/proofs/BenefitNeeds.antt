@@ -18,9 +18,6 @@ use Rattle.plan.specs.Ranges.{PlanRanges, InRange}
 use Rattle.plan.proofs.WeightLaws.{summed_most}
 
 -- ---- products that fit a word
-pub career_fits : (unit salary weights : ℕ) → unit ≤ 500 → salary ≤ 100000000 → weights ≤ 10600000 → unit * (salary * weights) ≤ 500 * (100000000 * 10600000)
-career_fits unit salary weights hu hs hw = mul-le-mul hu (mul-le-mul hs hw)
-
 pub final_fits : (unit years salary weights : ℕ) → unit ≤ 500 → years ≤ 60 → salary ≤ 100000000 → weights ≤ 1000000 → unit * years * (salary * weights) ≤ 500 * 60 * (100000000 * 1000000)
 final_fits unit years salary weights hu hy hs hw = mul-le-mul (mul-le-mul hu hy) (mul-le-mul hs hw)
 

@@ -1,6 +1,6 @@
 // A plan, its amendments and a member handed in as plain values (rules 5.3 to 5.6), and pay and benefit, RULES section 7; the rows are the
-// crate rates'. benefit.rt has the accrued benefit. specs/ has what every contract is an equation with, pay and benefit in Benefit and
-// Weights; in Ranges what the benefit asks of a plan and a member; and in Rising the law that the benefit never falls. A formula
+// crate rates'. benefit.rt has the accrued benefit, and numbers.rt the way from numbers to these and back. specs/ has what every contract is an
+// equation with: Numbers for that way, Benefit and Weights for pay and benefit; in Ranges what the benefit asks of a plan and a member; and in Rising the law that the benefit never falls. A formula
 // or method is a code: 1 flat, 2 career, 3 final; 1 AB, 2 BD, 3 BP, 4 CD, 5 CP; so a field that was never set is refused. Money
 // is in cents, a rate in millionths, and each field is wide enough to hold a wrong value.
 #![tactic(auto)]

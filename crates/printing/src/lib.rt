@@ -15,11 +15,12 @@ ghost use Rattle.printing.specs.Puts.{PutsAt, Puts};
 use digits::{put, write_two, write_whole};
 use rounding::Signed;
 
-// A buffer that is lent, and the place in it after what is written. The place may lie past the buffer's end.
+// A buffer that is lent, and the place in it after what is written. The place may lie past the buffer's end, and a caller
+// may begin anywhere.
 #[derive(Drop)]
 pub struct Page<'a> {
-    out: &'a mut [u8],
-    at: usize,
+    pub out: &'a mut [u8],
+    pub at: usize,
 }
 
 impl<'a> Page<'a> {
@@ -30,13 +31,6 @@ impl<'a> Page<'a> {
         ensures same_buffer { result.out.ghost_name ≡ out.entry.ghost_name }
     {
         Page { out, at: 0 }
-    }
-
-    // The place after what is written: on a page that began where its buffer does, how many bytes that takes.
-    pub fn at(&self) -> usize
-        ensures { result ≡ self.now.at }
-    {
-        self.at
     }
 
     // Writes a byte.

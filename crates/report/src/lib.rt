@@ -65,7 +65,7 @@ impl Report<'_> {
         let mut page = Page::new(out);
         self.write_members(&mut page);
         self.write_plan(&mut page);
-        page.at()
+        page.at
     }
 }
 
@@ -85,5 +85,5 @@ pub fn write_refusal(out: &mut [u8], number: u64, line: u64) -> usize
 {
     let mut page = Page::new(out);
     write_pair_line(&mut page, b"refused=", number, line);
-    page.at()
+    page.at
 }

@@ -1,9 +1,11 @@
 -- The laws of refusals: each has a number, and a `?` hands on the first.
 use mathlib.Core.Path.{◌≡◌, refl, sym, ◌∙◌}
+use mathlib.Core.Bool.{Bool, true, false, cond}
 use mathlib.Core.List.{List, [], ◌∷◌}
 use Prim.Native.Nat.{ℕ, ◌^◌, ◌≤◌, ◌<◌}
 use borrow.Author.Tests.{ne_eqb}
 use native.Mathlib.Omega.{arith}
+use Rattle.std.specs.Prelude.{Ok, Err}
 use Rattle.std.specs.declared.result.Result.{Result}
 use Rattle.std.specs.Result.{IsErrAnd}
 use Rattle.std.proofs.lemmas.Result.{err_from_is_err_and}
@@ -12,7 +14,7 @@ use Rattle.rules.specs.declared.refusals.Refusal.TheVariants.{TooLarge, CutOff, 
 use Rattle.rules.specs.declared.refusals.Refused.{Refused}
 use Rattle.rules.specs.Outcome.{Outcome, refusal, passing, outcome}
 use Rattle.rules.specs.Refusals.{number, verdict}
-use Rattle.rules.specs.Rules.{first_among}
+use Rattle.rules.specs.Rules.{first_among, unless}
 use Rattle.rules.proofs.RuleLaws.{first_refuses, first_passes, first_alone}
 
 -- each number has one digit or two, and none is 0
@@ -49,6 +51,11 @@ number_small r = omega (arith, (in_digits r).1)
 -- what a `?` returns
 pub handed_on : {A : Type 0} (e : Refusal) (r : Result A Refusal) → IsErrAnd r (λ d. d ≡ e) → verdict r ≡ number e
 handed_on e r h = let p = err_from_is_err_and r h in rw (p.1, p.2) refl
+
+-- what `unless` answers
+pub told_unless : (kept : Bool) (e : Refusal) (r : Result (Unit {0}) Refusal) → r ≡ cond kept (Ok tt) (Err e) → verdict r ≡ unless kept (number e)
+told_unless true e r is = rw is refl
+told_unless false e r is = rw is refl
 
 -- ---- rules in order, each with a `?`: one that is kept is passed over, the first that is broken is handed on, and the last is the answer
 pub goes_on : {v a : ℕ} (later : List ℕ) → 0 ≡ a → v ≡ first_among later → v ≡ first_among (a ∷ later)

@@ -26,10 +26,6 @@ pub first_alone : (a : ℕ) → first_among (a ∷ []) ≡ a
 first_alone zero = refl
 first_alone (suc a) = simp (ne_eqb (suc a) 0 (λ e. omega arith))
 
--- the last rule, after another one
-pub last_in_order : {r a b x y : ℕ} → r ≡ cond (eqb a 0) b a → a ≡ x → b ≡ y → r ≡ first_among (x ∷ y ∷ [])
-last_in_order {y = y} e f g = in_order e f (g ∙ sym (first_alone y))
-
 -- ---- where nothing is refused, each rule is kept
 abbrev pub AllKept : List ℕ → Type 0
 AllKept [] = Unit {0}

@@ -19,11 +19,6 @@ and_then (refusal number line) more = refusal number line
 abbrev pub passing : {A : Type 0} → (number line : ℕ) → Outcome A → Outcome A
 passing number line more = cond (eqb number 0) more (refusal number line)
 
--- a part of what is given
-abbrev pub giving : {A B : Type 0} → (A → B) → Outcome A → Outcome B
-giving part (values a) = values (part a)
-giving part (refusal number line) = refusal number line
-
 -- what the code's answer says, in these words
 abbrev pub outcome : {A : Type 0} → Result A Refused → Outcome A
 outcome (Ok a) = values a

@@ -1,4 +1,4 @@
--- An array that a part fills from place 0 on: an enum holds no array.
+-- An array that a part fills from place 0 on: it is lent, and the answer has none.
 use Rattle.std.specs.Prelude.{ℕ, List, replicate}
 use Rattle.std.proofs.lemmas.List.Edits.{sets}
 

@@ -1,7 +1,7 @@
 -- `acceptance::fields_refusal` meets its contract.
 use Rattle.std.proofs.Common.{rules}
 use Rattle.rule_order.specs.Acceptance.{field_rules}
-use Rattle.rules.proofs.RefusalLaws.{goes_on, refuses, is_last}
+use Rattle.rules.proofs.RefusalLaws.{goes_on, refuses, is_last, told_unless}
 use Rattle.acceptance.proofs.fields_refusal.Goals as goal
 
 pub returns-in_err-id_rule : goal.returns-in_err-id_rule
@@ -22,4 +22,4 @@ returns-in_err-age_rule c = search (rules, goes_on, refuses)
 
 pub returns : goal.returns
 unfolding field_rules
-returns c = search (rules, goes_on, is_last)
+returns c = search (rules, goes_on, is_last, told_unless _ _ _ c.unless.ensures)

@@ -2,6 +2,7 @@
 use mathlib.Core.Path.{◌≡◌}
 use native.Mathlib.Omega.{arith}
 use lib.ListN.{length}
+use Rattle.rules.proofs.RefusalLaws.{told_unless}
 use Rattle.amendments.proofs.Keeping.{unit_none, unit_over, unit_judged}
 use Rattle.amending.proofs.unit_rule.Goals as goal
 
@@ -18,4 +19,4 @@ returns-then-most-p c =
 pub returns : goal.returns
 returns c =
     let some : length c.args.list.now ≡ 0 → ⊥ = grind arith in
-    unit_judged c.args.p c.args.list.now some _ _ _ c.unit_most-most.ensures c.if-most-p.false c.additions.ensures c.unless.ensures
+    unit_judged c.args.p c.args.list.now some _ _ _ c.unit_most-most.ensures c.if-most-p.false c.additions.ensures (told_unless _ _ _ c.unless.ensures)

@@ -7,7 +7,7 @@ use borrow.Author.Tests.{leb-true}
 use Rattle.plan.specs.declared.Plan.{Plan}
 use Rattle.plan.specs.Numbers.{member_from}
 use Rattle.rules.proofs.RuleLaws.{kept}
-use Rattle.rules.proofs.RefusalLaws.{numbered, handed_on}
+use Rattle.rules.proofs.RefusalLaws.{numbered, handed_on, told_unless}
 use Rattle.amendments.specs.Force.{amendments_from}
 use Rattle.rule_order.specs.Acceptance.{amended_refusal}
 use Rattle.rule_order.proofs.ValuedLaws.{amended_kept, valued_is_accepted}
@@ -21,7 +21,7 @@ accepted : (c : In_ok-plan_refusal) → let a = c.args in amended_refusal a.p (a
 accepted c = sym c.in_ok-plan_refusal.ensures
 
 few : (c : In_ok-unless) → length c.args.members.now ≤ 1000
-few c = leb-true (length c.args.members.now) 1000 (kept _ _ (sym c.in_ok-unless.ensures))
+few c = leb-true (length c.args.members.now) 1000 (kept _ _ (sym (told_unless _ _ _ c.in_ok-unless.ensures)))
 
 pub returns-in_err-plan_refusal : goal.returns-in_err-plan_refusal
 returns-in_err-plan_refusal c = let a = c.args in
@@ -35,7 +35,7 @@ returns-in_err-unless c = let a = c.args in
     let refusal = c.in_err-unless.field-0.0 in
     let r = c.from_residual-in_err-unless in
     handed_on refusal r.result r.ensures.1
-    ∙ count_refuses (plain_case a.p a.amendments.now a.rows.now a.members.now) (accepted (goal.at.returns-in_err-unless c).In_ok-plan_refusal) (rw length-map c.in_err-unless.ensures) (numbered refusal)
+    ∙ count_refuses (plain_case a.p a.amendments.now a.rows.now a.members.now) (accepted (goal.at.returns-in_err-unless c).In_ok-plan_refusal) (rw length-map (told_unless _ _ _ c.in_err-unless.ensures)) (numbered refusal)
 
 pub as_valued-requires : goal.as_valued-requires
 as_valued-requires c = (amended_kept _ _ _ (accepted (goal.at.as_valued-requires c).In_ok-plan_refusal)).1
