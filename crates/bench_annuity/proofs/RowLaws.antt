@@ -1,10 +1,9 @@
 -- The laws of a table that stands as one list of numbers.
 use mathlib.Core.Path.{◌≡◌, refl, ap, ◌∙◌}
 use mathlib.Core.List.{List, []}
-use Prim.Native.Nat.{ℕ, zero, suc, ◌+◌, ◌-◌, ◌*◌, ◌<◌}
+use Prim.Native.Nat.{ℕ, zero, suc, ◌+◌, ◌*◌, ◌<◌}
 use native.Mathlib.Omega.{arith}
 use lib.ListN.{length, get_or}
-use Rattle.rates.specs.Table.{Sound, Table}
 use Rattle.bench_annuity.specs.Rows.{row_at, rows_from, rows_of}
 
 rows_from_length : (numbers : List ℕ) (at n : ℕ) → length (rows_from numbers at n) ≡ n
@@ -27,7 +26,3 @@ rows_of_length numbers = rows_from_length numbers 0 106
 pub rows_of_at : (numbers : List ℕ) (j : ℕ) → j < 106 → get_or (rows_of numbers) j [] ≡ row_at numbers (4 * j)
 unfolding rows_of
 rows_of_at numbers j lt = rows_from_at numbers 0 106 j lt ∙ ap (row_at numbers) {x = 0 + 4 * j} {y = 4 * j} (omega arith)
-
--- sound rows make a table
-pub sound_table : (rows : List (List ℕ)) → ((j : ℕ) → j < 106 → Sound (get_or rows j [])) → Table rows
-sound_table rows sound k low high = sound (k - 15) (omega arith)

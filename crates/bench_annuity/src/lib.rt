@@ -12,7 +12,6 @@ ghost use Rattle.year_steps.specs.Filled.{Filled};
 ghost use Rattle.bench_annuity.specs.Rows.{row_at, rows_of};
 
 use rates::{AGES, Rows};
-use year_steps::Factors;
 
 // A(k) for each age.
 pub fn bench_annuity_life_annuity(numbers: &[u32], r: usize, i: u64, out: &mut [u64]) -> bool
@@ -25,7 +24,7 @@ pub fn bench_annuity_life_annuity(numbers: &[u32], r: usize, i: u64, out: &mut [
     if !is_table(rows) {
         return false;
     }
-    copy(annuity::life_annuity(rows, r, i), out);
+    out.copy_from_slice(&annuity::life_annuity(rows, r, i));
     true
 }
 
@@ -46,17 +45,8 @@ pub fn bench_annuity_pay_annuity(
     if !is_table(rows) {
         return false;
     }
-    copy(annuity::pay_annuity(rows, r, i, e), out);
+    out.copy_from_slice(&annuity::pay_annuity(rows, r, i, e));
     true
-}
-
-fn copy(a: Factors, out: &mut [u64])
-    requires { length out.old ≡ 106 }
-    ensures { out.new ≡ a }
-{
-    for j in 0..AGES {
-        out[j] = a[j];
-    }
 }
 
 // The rows of a table.
@@ -87,19 +77,13 @@ fn row_at(numbers: &[u32], at: usize) -> [u32; 4]
 pub fn is_table(rows: Rows) -> bool
     ensures { result ≡ true → Table rows }
 {
-    for j in 0..AGES {
-        if !is_sound(rows[j]) {
-            return false;
-        }
-    }
-    true
+    rows.iter().all(|row| is_sound(*row))
 }
 
 fn is_sound(row: [u32; 4]) -> bool
     ensures { result ≡ true → Sound row }
 {
-    if row[0] > 1_000_000 || row[1] > 1_000_000 || row[2] > 1_000_000 {
-        return false;
-    }
-    row[3] <= 100_000
+    let [death, withdrawal, disability, weight] = row;
+    let most = 1_000_000;
+    death <= most && withdrawal <= most && disability <= most && weight <= 100_000
 }

@@ -1,7 +1,6 @@
 -- `bench_annuity::rows_of` meets its contract. The loop's invariant: each row before j is stored.
 use mathlib.Core.Path.{◌≡◌, sym, ◌∙◌}
 use mathlib.Core.List.{[]}
-use Prim.Native.Nat.{◌-◌}
 use native.Mathlib.Omega.{arith}
 use lib.ListN.{length}
 use Rattle.bench_annuity.specs.Rows.{rows_of}
