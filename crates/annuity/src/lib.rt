@@ -1,6 +1,7 @@
 // The annuity factors, RULES section 8, worked: A, G, T, Z and C in billionths. The crate `factors` has the factors, rounded and
 // exact, in the rules' letters, and how far apart the two lie. Here they are worked: the rows go by value to the functions of A, G, T
-// and Z, and by reference to the one fill of the crate `year_steps`. Each `requires` is what an accepted plan shows.
+// and Z, and by reference to the one fill of the crate `year_steps`,
+// which says why they come beside r and i and not in one value with them. Each `requires` is what an accepted plan shows.
 #![tactic(auto)]
 
 ghost use Rattle.std.specs.Prelude.{◌≡◌, ◌≤◌};

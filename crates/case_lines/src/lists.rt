@@ -14,7 +14,7 @@ use printed_lines::{write_field, write_next, write_start};
 use printing::Page;
 use rates::{FIRST_AGE, Rows};
 
-// Writes how each of these lines begins: a key and four whole numbers.
+// Writes how each of these lines begins: a key and four whole numbers. Over a slice it would be a loop with its invariant.
 fn write_four(page: &mut Page, key: &[u8], a: u64, b: u64, c: u64, d: u64)
     requires { (length key.now ≤ 16) × (page.old.at + 99 < 2 ^ 64) }
     ensures puts { Puts page.old (key.now ++ with_commas (whole_number a ∷ whole_number b ∷ whole_number c ∷ whole_number d ∷ [])) page.new }

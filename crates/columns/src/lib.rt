@@ -16,7 +16,8 @@ use year_steps::{Amount, Factors, fill};
 // Rules 2.3, 4.3 and 4.4: how many end ages there are, 15 to 75.
 pub const ENDS: usize = 61;
 
-// Columns of T or of Z, and which of them are filled.
+// Columns of T or of Z, and which of them are filled. A mark beside a column and no Option in its place: who reads one has shown that it
+// is filled, and would have an arm for one that isn't.
 #[derive(Drop)]
 pub struct Columns {
     pub factors: [Factors; ENDS],

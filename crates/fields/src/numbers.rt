@@ -15,7 +15,7 @@ fn is_digit(c: u8) -> bool
     ensures value { result ≡ is_digit c }
     ensures le_c { result ≡ true → (48 ≤ c) × (c ≤ 57) }
 {
-    48 <= c && c <= 57
+    b'0' <= c && c <= b'9'
 }
 
 // Rule 1.3: the whole number from place i up to the first byte b, which is no digit. A place instead of a slice, and the
@@ -28,7 +28,7 @@ pub fn field_at(s: &[u8], i: usize, b: u8) -> Option<Field>
     for j in i..s.len() {
         let c = s[j];
         if !is_digit(c) {
-            if c != b || j == i || (i + 1 < j && s[i] == 48) {
+            if c != b || j == i || (i + 1 < j && s[i] == b'0') {
                 return None;
             }
             return Some(Field { value: n, end: j });
@@ -36,7 +36,7 @@ pub fn field_at(s: &[u8], i: usize, b: u8) -> Option<Field>
         if i + 12 <= j {
             return None;
         }
-        n = n * 10 + (c - 48) as u64;
+        n = n * 10 + (c - b'0') as u64;
     }
     None
 }
@@ -45,16 +45,16 @@ pub fn field_at(s: &[u8], i: usize, b: u8) -> Option<Field>
 pub fn amount_at(s: &[u8], i: usize) -> Option<Field>
     ensures { result ≡ field_of amount_of 10 i s.now }
 {
-    let dollars = field_at(s, i, 46)?;
+    let dollars = field_at(s, i, b'.')?;
     let rest = &s[dollars.end..];
     let &[_, a, b, last, ..] = rest else {
         return None;
     };
-    if !is_digit(a) || !is_digit(b) || last != 10 {
+    if !is_digit(a) || !is_digit(b) || last != b'\n' {
         return None;
     }
     Some(Field {
-        value: dollars.value * 100 + (a - 48) as u64 * 10 + (b - 48) as u64,
+        value: dollars.value * 100 + (a - b'0') as u64 * 10 + (b - b'0') as u64,
         end: dollars.end + 3,
     })
 }
@@ -66,6 +66,6 @@ pub fn last_at(s: &[u8], i: usize, amount: bool) -> Option<Field>
     if amount {
         amount_at(s, i)
     } else {
-        field_at(s, i, 10)
+        field_at(s, i, b'\n')
     }
 }

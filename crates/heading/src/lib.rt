@@ -56,7 +56,7 @@ fn method_code(line: &[u8]) -> Option<u64>
 fn line_end(s: &[u8]) -> Option<usize>
     ensures { result ≡ position (λ b. b == 10) s.now }
 {
-    s.iter().position(|b| *b == 10)
+    s.iter().position(|b| *b == b'\n')
 }
 
 // The line of the formula or of the method: the code of its word. A flag, as the definition has it: of a function handed in

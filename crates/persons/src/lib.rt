@@ -1,7 +1,7 @@
 // Rule 7.10: the benefits of each person, summed. A person is found by its number, in a few steps whatever the numbers are,
 // and not by going through the lines before: specs/Held.antt has what is held for a person, as a scan, and the contract of
 // `add` is an equation with that. specs/Search.antt has the way to a person. That what is held is the sum over the lines
-// before is for the loop over the lines to show (crate `members`).
+// before is for the loop over the lines to show (crate `members`). No map, since the library has no heap.
 #![tactic(auto)]
 
 ghost use Rattle.std.specs.Prelude.{◌≡◌, cond, ℕ, ◌+◌, ◌≤◌, ◌<◌, leb, eqb, OnOk};

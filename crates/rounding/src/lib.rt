@@ -67,7 +67,8 @@ pub fn mul_mul_div_nearest(a: u64, b: u64, c: u64, d: u64) -> u64
     wide_div_nearest(words::times(words::product(a, b), c), d)
 }
 
-// An integer: a sign beside a size. Zero has no sign.
+// An integer: a sign beside a size. Zero has no sign. A wider signed number would be taken apart into the two wherever it is rounded or
+// printed.
 #[derive(Clone, Copy)]
 pub struct Signed {
     pub negative: bool,

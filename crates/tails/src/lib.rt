@@ -36,7 +36,8 @@ impl From<Fault> for TailFault {
     }
 }
 
-// A line after the rows, with the place of its byte 10. When the members are full one more is a surplus (refusal 27).
+// A line after the rows, with the place of its byte 10. When the members are full one more is a surplus (refusal 27): a
+// flag, as the definition has it.
 pub fn tail_line(s: &[u8], full: bool) -> Result<(Tail, usize), TailFault>
     ensures { result ≡ kind_of full s.now }
 {
@@ -55,7 +56,7 @@ pub fn tail_line(s: &[u8], full: bool) -> Result<(Tail, usize), TailFault>
 fn surplus(s: &[u8]) -> TailFault
     ensures { result ≡ surplus_of s.now }
 {
-    if s.contains(&10) {
+    if s.contains(&b'\n') {
         TailFault::Surplus
     } else {
         TailFault::Cut

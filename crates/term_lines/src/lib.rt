@@ -20,7 +20,7 @@ pub fn write_whole_line(page: &mut Page, key: &[u8], n: u64)
     page.put(b'\n');
 }
 
-// Writes a line of a key and a word.
+// Writes a line of a key and a word. One function over what follows the key would be handed the writer.
 fn write_word_line(page: &mut Page, key: &[u8], word: &[u8])
     requires { page.old.at + length key.now + length word.now + 1 < 2 ^ 64 }
     ensures puts { Puts page.old (closed_lines ((key.now ++ word.now) ∷ [])) page.new }

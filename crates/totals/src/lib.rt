@@ -25,6 +25,7 @@ pub struct Totals {
 }
 
 // Rule 9.12: which engine works the figures, the plain one or the shared one; `ByCount` leaves it to the count of members.
+// An enum and no closure, since callers name the engine, those in C too.
 #[derive(Clone, Copy)]
 pub enum EngineChoice {
     Plain,

@@ -15,7 +15,7 @@ use fields::{Fault, Line};
 pub fn unread(s: &[u8]) -> Fault
     ensures { result ≡ cond (has_of 10 s.now) Wrong Cut }
 {
-    if s.contains(&10) {
+    if s.contains(&b'\n') {
         Fault::Wrong
     } else {
         Fault::Cut
@@ -30,7 +30,7 @@ fn values_at<const N: usize, const AMOUNT: bool>(s: &[u8], i: usize) -> Option<(
     let mut values = [0; N];
     let mut at = i;
     for k in 0..N - 1 {
-        let field = field_at(s, at, 44)?;
+        let field = field_at(s, at, b',')?;
         values[k] = field.value;
         at = field.end + 1;
     }
