@@ -36,6 +36,19 @@ impl From<[u32; 4]> for Row {
     }
 }
 
+impl From<[u64; 4]> for Row {
+    ghost from_gives = { λ row r. r ≡ row_numbers row };
+
+    fn from([death, withdrawal, disability, weight]: [u64; 4]) -> Row {
+        Row {
+            death,
+            withdrawal,
+            disability,
+            weight,
+        }
+    }
+}
+
 // Rules 3.2, 3.4 and 3.5 of the row of age k, where the age before has the weight `before`.
 pub fn row_rule(k: usize, before: u64, row: Row) -> Result<(), Refusal>
     ensures { verdict result ≡ first_among (row_rules k before row) }

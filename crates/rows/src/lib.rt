@@ -37,14 +37,7 @@ fn row_refusal(ranges: bool, age: usize, before: u64, numbers: [u64; 4]) -> Resu
     if !ranges {
         return Ok(());
     }
-    let [death, withdrawal, disability, weight] = numbers;
-    let row = Row {
-        death,
-        withdrawal,
-        disability,
-        weight,
-    };
-    row_rule(age, before, row)
+    row_rule(age, before, Row::from(numbers))
 }
 
 // A number in 32 bits; a larger one becomes the largest. Where the ranges are settled no number is larger.
