@@ -90,11 +90,9 @@ fn sum(so_far: u64, number: u64) -> u64 {
 // The sum of the numbers of the first `count` of some lists.
 fn sum_of<const N: usize>(lists: &[[u64; N]], count: u64) -> u64 {
     let mut total = 0;
-    for (j, list) in lists.iter().enumerate() {
-        if (j as u64) < count {
-            for &number in list {
-                total = sum(total, number);
-            }
+    for list in lists.iter().take(count as usize) {
+        for &number in list {
+            total = sum(total, number);
         }
     }
     total

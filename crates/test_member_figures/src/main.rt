@@ -15,7 +15,7 @@ use plan::{Member, Plan};
 use rules::refusals::Refused;
 use std::io;
 use std::io::Read;
-use test_support::{fill, next, number_at, refused, rows_at};
+use test_support::{fill, next, refused, rows_at};
 
 // How many bytes a case has.
 const SIZE: usize = 2520;
@@ -111,7 +111,14 @@ fn longs_at<const N: usize>(bytes: &[u8; SIZE], at: usize) -> [u64; N]
 fn long_at(bytes: &[u8; SIZE], at: usize) -> u64
     requires { at + 8 ≤ 2520 }
 {
-    let low = u64::from(number_at(bytes, at));
-    let high = u64::from(number_at(bytes, at + 4));
-    low + 4_294_967_296 * high
+    u64::from_le_bytes([
+        bytes[at],
+        bytes[at + 1],
+        bytes[at + 2],
+        bytes[at + 3],
+        bytes[at + 4],
+        bytes[at + 5],
+        bytes[at + 6],
+        bytes[at + 7],
+    ])
 }

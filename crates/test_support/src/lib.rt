@@ -46,7 +46,7 @@ fn row_at(bytes: &[u8], at: usize) -> [u32; 4]
 }
 
 // A number of 4 bytes.
-pub fn number_at(bytes: &[u8], at: usize) -> u32
+fn number_at(bytes: &[u8], at: usize) -> u32
     requires { at + 4 ≤ length bytes.now }
 {
     u32::from_le_bytes([bytes[at], bytes[at + 1], bytes[at + 2], bytes[at + 3]])
