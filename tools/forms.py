@@ -11,39 +11,54 @@ import sys
 
 ROOT = pathlib.Path(__file__).resolve().parent.parent
 
+ENUMS = "1 own enums with a refusal, or with one value and nothing else"
+BESIDE = "1 a value written beside an answer"
+NUMBERS = "1 functions that answer a refusal's number"
+NAMES = "1 numbers as names of refusals"
+ALIKE = "2 functions whose bodies differ in names and numbers alone"
+COUNTING = "3 loops that count an index by hand"
+LOOPS = "3 other while and loop"
+CONVERSIONS = "4 conversions by hand"
+CASTS = "4 widening casts"
+LOGIC = "4 and, or and least by hand"
+COMPANY = "5 parameters that always travel together"
+COUNTED = "6 arrays with a count beside"
+FLAGS = "7 switches on a step"
+SETTLED = "7 a rule asked for where ranges are settled, written out"
+
+FORMS = (ENUMS, BESIDE, NUMBERS, NAMES, ALIKE, COUNTING, LOOPS, CONVERSIONS, CASTS, LOGIC, COMPANY, COUNTED, FLAGS, SETTLED)
+
+# Parameters that come together.
+COMPANIES = (("columns", "marks"), ("cells", "sums"), ("unfunded", "supplemental"), ("out", "at"), ("rows", "r", "i"), ("p", "rows", "m"))
+
+
+def run(*command):
+    return subprocess.run(command, cwd=ROOT, check=True, capture_output=True, text=True).stdout
+
 
 def sources(commit):
     """The source files, by path."""
     if commit is None:
         return {str(f.relative_to(ROOT)): f.read_text() for f in sorted(ROOT.glob("crates/*/src/*.rt"))}
-    names = subprocess.run(["git", "ls-tree", "-r", "--name-only", commit, "crates"], cwd=ROOT, check=True,
-                           capture_output=True, text=True).stdout.split()
-    names = [n for n in names if re.fullmatch(r"crates/[a-z_0-9]+/src/[a-z_0-9]+\.rt", n)]
-    return {n: subprocess.run(["git", "show", f"{commit}:{n}"], cwd=ROOT, check=True, capture_output=True,
-                              text=True).stdout for n in names}
+    names = run("git", "ls-tree", "-r", "--name-only", commit, "crates").split()
+    return {n: run("git", "show", f"{commit}:{n}") for n in names if re.fullmatch(r"crates/\w+/src/\w+\.rt", n)}
 
 
 def functions(text):
     """Each function: its name, the line it begins at, its parameters and result, and its body."""
     for m in re.finditer(r"\bfn ([a-z_0-9]+)(?:<[^(]*>)?\(([^)]*)\)([^{\n]*)", text):
-        body = text.find("\n{\n", m.end()) if not text[m.end():].startswith("{") else m.end()
-        indent = re.search(r"[ ]*$", text[:text.rfind("\n", 0, m.start()) + 1 or 0]) and 0
-        start = re.compile(r"\{\n").search(text, m.end())
-        depth, i = 0, m.end()
-        # clauses have braces too: the body is the brace that stands alone on its line, or ends the signature's line
-        lines = text[m.start():].split("\n")
-        at, taken = m.start(), []
-        opened = None
-        for line in lines:
-            if opened is None and (re.fullmatch(r"\s*\{", line) or (line.rstrip().endswith("{") and "ensures" not in line
-                                                                   and "requires" not in line)):
-                opened = len(line) - len(line.lstrip())
+        # Clauses have braces too: the body's stands alone on its line, or ends the signature's line.
+        body, depth = [], None
+        for line in text[m.start():].split("\n"):
+            if depth is None:
+                clause = "ensures" in line or "requires" in line
+                if re.fullmatch(r"\s*\{", line) or (line.rstrip().endswith("{") and not clause):
+                    depth = len(line) - len(line.lstrip())
                 continue
-            if opened is not None:
-                if re.fullmatch(r"\s{%d}\}" % opened, line) or re.fullmatch(r"\}", line):
-                    break
-                taken.append(line)
-        yield m.group(1), text.count("\n", 0, m.start()) + 1, m.group(2), m.group(3), "\n".join(taken)
+            if re.fullmatch(r"\s{%d}\}" % depth, line) or line == "}":
+                break
+            body.append(line)
+        yield m.group(1), text.count("\n", 0, m.start()) + 1, m.group(2), m.group(3), "\n".join(body)
 
 
 def shape(body):
@@ -55,69 +70,63 @@ def shape(body):
     return re.sub(r"\s+", "", body)
 
 
+def forms_of(name, parameters, result, body):
+    """The forms of one function, each with what is said of it."""
+    flat = re.sub(r"\s+", " ", body).strip()
+    names = re.findall(r"(\w+): ", parameters)
+    if "values: &mut Read" in parameters:
+        yield BESIDE, name
+    rule = re.search(r"(_rule|_refusal|^unless|^or_else|^unless_between|^surplus)", name) or name == "add"
+    if re.search(r"-> u64\b", result) and rule:
+        yield NUMBERS, name
+    if re.search(r"while (\w+) (<|<=) ", body) and re.search(r"\b(\w+) \+= 1;", body) or re.search(r"while 0 < (\w+) \{", body):
+        yield COUNTING, name
+    elif re.search(r"^\s*(while |loop \{)", body, re.M):
+        yield LOOPS, name
+    by_field = (r"(let \w+ = [\w.\[\]& ]+; )?[A-Z]\w+ \{( \w+: \w+\[[\w ]+\],)+ \}", r"\[( ?\w+\.\w+,?)+ ?\]",
+                r"(let \w+ = word\([^)]*\); )+[A-Z]\w+ \{.*\}")
+    if name != "from" and any(re.fullmatch(pattern, flat) for pattern in by_field):
+        yield CONVERSIONS, name
+    if re.fullmatch(r"(if code == \d \{ return [A-Z]\w+::\w+; \} )+[A-Z]\w+::\w+", flat):
+        yield CONVERSIONS, name
+    if flat == "x as u64":
+        yield CASTS, name
+    if flat in ("if a { b } else { false }", "if a { true } else { b }", "if a <= b { a } else { b }", "if a == 0 { b } else { a }"):
+        yield LOGIC, name
+    for company in COMPANIES:
+        if all(n in names for n in company):
+            yield COMPANY, f"{name} ({', '.join(company)})"
+    for array, count in (("members", "count"), ("list", "n"), ("worked", "count")):
+        if array in names and count in names:
+            yield COUNTED, f"{name} ({array}, {count})"
+    for switch in re.findall(r"(engine: EngineChoice|method: bool|amount: bool|full: bool|ranges: bool)", parameters):
+        yield FLAGS, f"{name} ({switch})"
+    if re.search(r"if !?ranges \{", flat):
+        yield SETTLED, name
+
+
 def found(files):
-    places = collections.OrderedDict()
-
-    def add(form, path, line, what):
-        places.setdefault(form, []).append(f"{path}:{line}: {what}")
-
-    for form in ("1 own enums with a refusal, or with one value and nothing else", "1 a value written beside an answer",
-                 "1 functions that answer a refusal's number", "1 numbers as names of refusals",
-                 "2 functions whose bodies differ in names and numbers alone",
-                 "3 loops that count an index by hand", "3 other while and loop", "4 conversions by hand",
-                 "4 widening casts", "4 and, or and least by hand", "5 parameters that always travel together",
-                 "6 arrays with a count beside", "7 switches on a step"):
-        places[form] = []
+    """The places of each form."""
+    places = collections.OrderedDict((form, []) for form in FORMS)
     shapes = collections.defaultdict(list)
     for path, text in files.items():
+        def add(form, line, what):
+            places[form].append(f"{path}:{line}: {what}")
         for m in re.finditer(r"^(?:pub )?enum (\w+) \{\n(.*?)^\}", text, re.M | re.S):
-            # an error enum stands in a Result: its variants carry nothing
-            cases = [c for c in re.findall(r"^    (\w+(?:\([^)]*\))?)(?: = \d+)?,", m.group(2), re.M)]
-            if any("(" in c for c in cases):
-                add("1 own enums with a refusal, or with one value and nothing else", path,
-                    text.count("\n", 0, m.start()) + 1, m.group(1))
-        for name, line, parameters, result, body in functions(text):
-            if re.search(r"values: &mut Read", parameters):
-                add("1 a value written beside an answer", path, line, name)
-            if "u64" in result and re.search(r"(_rule|_refusal|^unless|^or_else|^unless_between|^surplus)", name) or (
-                    name == "add" and result.strip().endswith("u64")):
-                add("1 functions that answer a refusal's number", path, line, name)
-            if body.count("\n") >= 2:
-                shapes[shape(body)].append((path, line, name))
-            if re.search(r"while (\w+) (<|<=) ", body) and re.search(r"\b(\w+) \+= 1;", body) or re.search(
-                    r"while 0 < (\w+) \{", body):
-                add("3 loops that count an index by hand", path, line, name)
-            elif re.search(r"^\s*(while |loop \{)", body, re.M):
-                add("3 other while and loop", path, line, name)
-            flat = re.sub(r"\s+", " ", body).strip()
-            if re.fullmatch(r"(let \w+ = [\w.\[\]& ]+; )?[A-Z]\w+ \{( \w+: \w+\[[\w ]+\],)+ \}", flat) or re.fullmatch(
-                    r"\[( ?\w+\.\w+,?)+ ?\]", flat) or re.fullmatch(r"(let \w+ = word\([^)]*\); )+[A-Z]\w+ \{.*\}", flat):
-                if name != "from":
-                    add("4 conversions by hand", path, line, name)
-            if re.fullmatch(r"(if code == \d \{ return [A-Z]\w+::\w+; \} )+[A-Z]\w+::\w+", flat):
-                add("4 conversions by hand", path, line, name)
-            if re.fullmatch(r"x as u64", flat):
-                add("4 widening casts", path, line, name)
-            if flat in ("if a { b } else { false }", "if a { true } else { b }", "if a <= b { a } else { b }",
-                        "if a == 0 { b } else { a }"):
-                add("4 and, or and least by hand", path, line, name)
-            names = re.findall(r"(\w+): ", parameters)
-            for pair in (("columns", "marks"), ("cells", "sums"), ("unfunded", "supplemental"), ("out", "at"),
-                         ("rows", "r", "i")):
-                if all(n in names for n in pair):
-                    add("5 parameters that always travel together", path, line, f"{name} ({', '.join(pair)})")
-            for array, count in (("members", "count"), ("list", "n"), ("worked", "count")):
-                if array in names and count in names:
-                    add("6 arrays with a count beside", path, line, f"{name} ({array}, {count})")
-            for switch in re.findall(r"(engine: EngineChoice|method: bool|amount: bool|full: bool|ranges: bool)", parameters):
-                add("7 switches on a step", path, line, f"{name} ({switch})")
+            # An error enum stands in a Result: its variants carry nothing.
+            if re.search(r"^    \w+\(", m.group(2), re.M):
+                add(ENUMS, text.count("\n", 0, m.start()) + 1, m.group(1))
         for m in re.finditer(r"^pub const ([A-Z_]+): u64 = \d+;", text, re.M):
             if path.endswith("refusals.rt"):
-                add("1 numbers as names of refusals", path, text.count("\n", 0, m.start()) + 1, m.group(1))
+                add(NAMES, text.count("\n", 0, m.start()) + 1, m.group(1))
+        for name, line, parameters, result, body in functions(text):
+            for form, what in forms_of(name, parameters, result, body):
+                add(form, line, what)
+            if body.count("\n") >= 2:
+                shapes[shape(body)].append(f"{path}:{line}: {name}")
     for same in shapes.values():
         if len(same) > 1:
-            for path, line, name in same:
-                add("2 functions whose bodies differ in names and numbers alone", path, line, name)
+            places[ALIKE] += same
     return places
 
 
