@@ -8,7 +8,7 @@ ghost use Rattle.plan.specs.Numbers.{fields_of};
 ghost use Rattle.rules.specs.Refusals.{verdict};
 ghost use Rattle.amendments.specs.Force.{amendments_from};
 ghost use Rattle.amendments.specs.Judging.{most_amendments, amendment_refusal, unit_refusal, each_refusal};
-ghost use Rattle.walk.specs.Settled.{settled};
+ghost use Rattle.walk.specs.Settled.{settled as Settled·settled};
 ghost use Rattle.walk.specs.Lines.{amend_form, begins as Lines·begins};
 ghost use Rattle.amend_lines.specs.Array.{list_array};
 ghost use Rattle.amend_lines.specs.Stretch.{surplus_of, refusal_of, AmendsAre};
@@ -17,7 +17,7 @@ use amending::{amendment_rule, fields_rule, unit_rule};
 use fields::Line;
 use plan::{Amendment, MOST_AMENDMENTS, Plan};
 use rules::refusals::{Refusal, Refused};
-use stretches::{Next, at_line, plan_line};
+use stretches::{Next, at_line, plan_line, settled};
 use values::whole_values;
 
 // Whether the bytes begin as an amendment's line does, whole or not.
@@ -38,32 +38,26 @@ fn amend_line(s: &[u8]) -> Line<4>
 fn surplus_refusal(ranges: bool, a: Amendment) -> Result<(), Refusal>
     ensures { verdict result ≡ surplus_of ranges a }
 {
-    if ranges {
-        fields_rule(a)?;
-    }
+    settled(ranges, || fields_rule(a))?;
     Err(Refusal::WrongAmendment)
 }
 
 // An amendment's own rules, where the ranges are settled.
 fn own_refusal(ranges: bool, before: &[[u64; 4]], a: Amendment) -> Result<(), Refusal>
-    ensures { verdict result ≡ settled ranges (amendment_refusal (amendments_from before.now) a) }
+    ensures { verdict result ≡ Settled·settled ranges (amendment_refusal (amendments_from before.now) a) }
 {
-    if ranges {
-        amendment_rule(before, a)
-    } else {
-        Ok(())
-    }
+    settled(ranges, || amendment_rule(before, a))
 }
 
 // The unit's rule, unless one more amendment follows.
 fn unit_refusal(ranges: bool, more: bool, p: Plan, list: &[[u64; 4]]) -> Result<(), Refusal>
     requires { ranges ≡ true → each_refusal [] (amendments_from list.now) ≡ 0 }
-    ensures { verdict result ≡ settled ranges (cond more 0 (unit_refusal p (amendments_from list.now))) }
+    ensures { verdict result ≡ Settled·settled ranges (cond more 0 (unit_refusal p (amendments_from list.now))) }
 {
     if more {
         return Ok(());
     }
-    if ranges { unit_rule(p, list) } else { Ok(()) }
+    settled(ranges, || unit_rule(p, list))
 }
 
 // What the rules say of an amendment after the n of a list, where `more` says whether one more follows. Where nothing refuses it

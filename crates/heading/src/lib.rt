@@ -5,7 +5,7 @@ ghost use Rattle.std.specs.Prelude.{◌≡◌, ◌==◌, position};
 ghost use Rattle.fields.specs.Values.{line_of};
 ghost use Rattle.rules.specs.Refusals.{verdict};
 ghost use Rattle.rules.specs.Heading.{term_rule};
-ghost use Rattle.walk.specs.Settled.{settled};
+ghost use Rattle.walk.specs.Settled.{settled as Settled·settled};
 ghost use Rattle.walk.specs.Terms.{formula_word, method_word, term_form};
 ghost use Rattle.heading.specs.Words.{coded, word_of};
 ghost use Rattle.heading.specs.Stretch.{HeadIs};
@@ -14,7 +14,7 @@ use fields::{Fault, Line};
 use plan::{TERMS, Terms};
 use rules::refusals::{Refusal, Refused};
 use rules::terms::term_rule;
-use stretches::{Next, at_line, plan_line};
+use stretches::{Next, at_line, plan_line, settled};
 use values::{unread, values_to_amount, whole_values};
 
 // Rules 2.4 and 5.4: the code of the formula, none for another word. By `==`: of a `match` on byte strings the check asks a proof
@@ -99,13 +99,9 @@ fn term_line(s: &[u8], k: usize) -> Line<1>
 
 // The range rule of a term, where the ranges are settled.
 fn term_refusal(ranges: bool, k: usize, terms: &Terms, value: u64) -> Result<(), Refusal>
-    ensures { verdict result ≡ settled ranges (term_rule k terms.now value) }
+    ensures { verdict result ≡ Settled·settled ranges (term_rule k terms.now value) }
 {
-    if ranges {
-        term_rule(k, terms, value)
-    } else {
-        Ok(())
-    }
+    settled(ranges, || term_rule(k, terms, value))
 }
 
 // Reads the terms, and settles their ranges too where that is asked for. After a refusal `terms` is left open.

@@ -17,7 +17,8 @@ use rates::Rows;
 use rules::refusals::Refusal;
 
 // The range rules of a member after `count` others, where the ranges are settled. Where none refuses it its benefit is added to its
-// person's. After a refusal the persons are left open, and so is what they hold where the ranges aren't settled.
+// person's. After a refusal the persons are left open, and so is what they hold where the ranges aren't settled. Not by `settled`: of a closure
+// that changes the persons nothing would be known afterwards.
 pub fn line_refusal(
     ranges: bool,
     p: Plan,

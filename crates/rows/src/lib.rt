@@ -6,7 +6,7 @@ ghost use Rattle.fields.specs.Values.{line_of};
 ghost use Rattle.rules.specs.Refusals.{verdict};
 ghost use Rattle.rules.specs.Rules.{first_among};
 ghost use Rattle.row_rules.specs.Table.{row_rules, row_numbers};
-ghost use Rattle.walk.specs.Settled.{settled};
+ghost use Rattle.walk.specs.Settled.{settled as Settled·settled};
 ghost use Rattle.walk.specs.Lines.{row_form};
 ghost use Rattle.rows.specs.Narrow.{narrow_of};
 ghost use Rattle.rows.specs.Stretch.{RowsAre};
@@ -15,7 +15,7 @@ use fields::{Fault, Line};
 use rates::{AGES, FIRST_AGE, Rows};
 use row_rules::{Row, row_rule};
 use rules::refusals::{Refusal, Refused};
-use stretches::{Next, at_line, plan_line};
+use stretches::{Next, at_line, plan_line, settled};
 use values::whole_values;
 
 // The line of an age's row: the four numbers after the age.
@@ -32,12 +32,9 @@ fn row_line(s: &[u8], age: u64) -> Line<4>
 
 // The range rules of a row, where the ranges are settled.
 fn row_refusal(ranges: bool, age: usize, before: u64, numbers: [u64; 4]) -> Result<(), Refusal>
-    ensures { verdict result ≡ settled ranges (first_among (row_rules age before (row_numbers numbers))) }
+    ensures { verdict result ≡ Settled·settled ranges (first_among (row_rules age before (row_numbers numbers))) }
 {
-    if !ranges {
-        return Ok(());
-    }
-    row_rule(age, before, Row::from(numbers))
+    settled(ranges, || row_rule(age, before, Row::from(numbers)))
 }
 
 // A number in 32 bits; a larger one becomes the largest. Where the ranges are settled no number is larger.

@@ -3,7 +3,7 @@
 // rows and members have a part each, and whole_walk puts them together. proofs/StretchLaws.antt has how a loop passes a line.
 #![tactic(auto)]
 
-ghost use Rattle.std.specs.Prelude.{◌≡◌};
+ghost use Rattle.std.specs.Prelude.{◌≡◌, true, false, Ok};
 ghost use Rattle.stretches.specs.Refusing.{plan_line, at_line};
 
 use fields::{Fault, Line};
@@ -35,4 +35,13 @@ pub fn at_line(judged: Result<(), Refusal>, line: u64) -> Result<(), Refused>
         Ok(()) => Ok(()),
         Err(refusal) => Err(refusal.at(line)),
     }
+}
+
+// Rules 5.1 and 5.2: what a range rule says, where the ranges are settled.
+pub fn settled<F: FnOnce() -> Result<(), Refusal>>(ranges: bool, rule: F) -> Result<(), Refusal>
+    requires { ranges ≡ true → F.pre rule }
+    ensures kept { ranges ≡ false → result ≡ Ok tt }
+    ensures asked { ranges ≡ true → F.post rule result }
+{
+    if ranges { rule() } else { Ok(()) }
 }
