@@ -24,7 +24,7 @@ pub fn write_start(page: &mut Page, key: &[u8], n: u64)
     page.whole(n);
 }
 
-// Writes a comma and a whole number.
+// Writes a comma and a whole number. Apart from the next, as either is one call after the comma.
 pub fn write_next(page: &mut Page, n: u64)
     requires { page.old.at + 21 < 2 ^ 64 }
     ensures puts { Puts page.old (44 ∷ whole_number n) page.new }

@@ -52,7 +52,7 @@ pub fn tail_line(s: &[u8], full: bool) -> Result<(Tail, usize), TailFault>
     Ok((Tail::Listed(Member::from(values)), end))
 }
 
-// A member's line after 1,000 members, however it goes on.
+// A member's line after 1,000 members, however it goes on. As `values::unread`, but for the two faults.
 fn surplus(s: &[u8]) -> TailFault
     ensures { result ≡ surplus_of s.now }
 {

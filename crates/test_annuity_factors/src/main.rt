@@ -19,7 +19,8 @@ const SIZE: usize = 1702;
 // The place of the first row.
 const ROWS: usize = 6;
 
-// A proved loop has to end, and nothing says that the input does: no run uses up these turns.
+// A proved loop has to end, and nothing says that the input does: no run uses up these turns. The programs have one each, since one
+// for all would be handed `case`.
 fn main(rt: HostRuntime) -> io::Result<()> {
     let mut input = rt.reader();
     for _ in 0..u64::MAX {

@@ -16,7 +16,8 @@ const SIZE: usize = 70_000;
 // The sums are kept below this.
 const PRIME: u64 = 1_000_003;
 
-// A proved loop has to end, and nothing says that the input does: no run uses up these turns.
+// A proved loop has to end, and nothing says that the input does: no run uses up these turns. The programs have one each, since one
+// for all would be handed `case`.
 fn main(rt: HostRuntime) -> io::Result<()> {
     let mut input = rt.reader();
     for _ in 0..u64::MAX {

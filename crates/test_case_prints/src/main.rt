@@ -20,7 +20,8 @@ const AFTER: usize = 16;
 // The longest buffer, with what follows it.
 const ROOM: usize = 70_000;
 
-// A proved loop has to end, and nothing says that the input does: no run uses up these turns.
+// A proved loop has to end, and nothing says that the input does: no run uses up these turns. The programs have one each, since one
+// for all would be handed `case`.
 fn main(rt: HostRuntime) -> io::Result<()> {
     let mut input = rt.reader();
     for _ in 0..u64::MAX {

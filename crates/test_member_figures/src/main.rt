@@ -34,7 +34,8 @@ const ROWS: usize = 784;
 // The place of the member.
 const MEMBER: usize = 2480;
 
-// A proved loop has to end, and nothing says that the input does: no run uses up these turns.
+// A proved loop has to end, and nothing says that the input does: no run uses up these turns. The programs have one each, since one
+// for all would be handed `case`.
 fn main(rt: HostRuntime) -> io::Result<()> {
     let mut input = rt.reader();
     for _ in 0..u64::MAX {
