@@ -1,32 +1,21 @@
-// The members of an accepted plan and their figures, each in an array. specs/Worked.antt has what the array of figures holds. The engines fill
-// it, each in a crate of its own: plain_fill and shared_fill.
+// The figures of the members of an accepted plan, in an array. specs/Worked.antt has what it holds. The engines fill it, each in a crate of its
+// own: plain_fill and shared_fill.
 #![tactic(auto)]
 
-ghost use Rattle.std.specs.Prelude.{◌≡◌, ◌<◌};
-ghost use Rattle.walk.specs.Lines.{most_members};
-ghost use Rattle.members.specs.Array.{member_at};
-ghost use Rattle.all_figures.specs.Worked.{figures_stored, figures_in};
+ghost use Rattle.std.specs.Prelude.{◌≡◌};
+ghost use Rattle.all_figures.specs.Worked.{figures_stored};
 
 use costs::Figures;
-use plan::{MOST_MEMBERS, Member, Members};
+use plan::MOST_MEMBERS;
 
 // The figures of up to 1,000 members: the benefit, its value, the cost and the liability of each.
 pub type Worked = [[u64; 4]; MOST_MEMBERS];
 
-// Member j of the array that accepting fills.
-pub fn member_at(members: &Members, j: usize) -> Member
-    requires { j < most_members }
-    ensures { result ≡ member_at members.now j }
+// A member's figures, from the array.
+pub fn figures_from(numbers: [u64; 4]) -> Figures
+    ensures { result ≡ figures_stored numbers }
 {
-    Member::from(members[j])
-}
-
-// The figures of member j.
-pub fn figures_at(worked: &Worked, j: usize) -> Figures
-    requires { j < most_members }
-    ensures { result ≡ figures_in worked.now j }
-{
-    let [benefit, value, cost, liability] = worked[j];
+    let [benefit, value, cost, liability] = numbers;
     Figures {
         benefit,
         value,

@@ -21,10 +21,10 @@ const LONGEST_PLAN_LINES: usize = 145;
 // Whether all lines of an accepted case fit so much room. Where even the longest would, nothing is measured. The report comes by
 // value, so that it is known what its words can hold.
 fn lines_fit(room: usize, report: Report) -> bool
-    requires { (report.count ≤ most_members) × ShortLines report.members.now report.worked.now report.count }
+    requires { (length report.members.now ≤ most_members) × ShortLines report.members.now report.worked.now (length report.members.now) }
     ensures { result ≡ leb (length (report_lines report.entry)) room }
 {
-    if LONGEST_LINE * (report.count as usize) + LONGEST_PLAN_LINES <= room {
+    if LONGEST_LINE * report.members.len() + LONGEST_PLAN_LINES <= room {
         return true;
     }
     let mut nowhere = [0u8; 0];
@@ -34,7 +34,7 @@ fn lines_fit(room: usize, report: Report) -> bool
 
 // Writes all lines of an accepted case where they fit, and tells how many bytes they are.
 pub fn fit_lines(out: &mut [u8], report: Report) -> Result<usize, Refused>
-    requires { (report.count ≤ most_members) × ShortLines report.members.now report.worked.now report.count }
+    requires { (length report.members.now ≤ most_members) × ShortLines report.members.now report.worked.now (length report.members.now) }
     ensures value { outcome result ≡ answer (fitting (length out.old) (report_lines report.entry)) }
     ensures out_after { out.new ≡ buffer (fitting (length out.old) (report_lines report.entry)) out.old }
 {

@@ -1,5 +1,5 @@
 -- The lines of the members, from the two arrays that the code keeps, and those of a report over these.
-use Rattle.std.specs.Prelude.{List, [], ◌++◌, ℕ, zero, suc, ◌≤◌, ◌<◌}
+use Rattle.std.specs.Prelude.{List, [], ◌++◌, ℕ, zero, suc, ◌≤◌, ◌<◌, length}
 use Rattle.costs.specs.declared.Figures.{Figures}
 use Rattle.members.specs.Array.{member_at}
 use Rattle.all_figures.specs.Worked.{figures_in, Small}
@@ -23,4 +23,5 @@ ShortLines members worked n = (j : ℕ) → j < n → ShortLine (member_at membe
 -- rule 13.2: all lines of a report
 abbrev pub report_lines : Report → List ℕ
 report_lines r =
-    lines_in r.members.now r.worked.now r.count ++ plan_lines r.count r.totals (integer_of r.unfunded) (integer_of r.supplemental)
+    lines_in r.members.now r.worked.now (length r.members.now)
+    ++ plan_lines (length r.members.now) r.totals (integer_of r.unfunded) (integer_of r.supplemental)

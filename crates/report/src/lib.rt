@@ -3,28 +3,26 @@
 // `requires` is what accepted members show.
 #![tactic(auto)]
 
-ghost use Rattle.std.specs.Prelude.{◌+◌, ◌^◌, ◌≤◌, ◌<◌};
+ghost use Rattle.std.specs.Prelude.{◌+◌, ◌^◌, ◌≤◌, ◌<◌, length};
 ghost use Rattle.rounding.specs.Signed.{integer_of};
 ghost use Rattle.walk.specs.Lines.{most_members};
 ghost use Rattle.printing.specs.Puts.{PutsAt, Puts};
 ghost use Rattle.report.specs.Lines.{figures_line, plan_lines, refusal_line};
 ghost use Rattle.report.specs.MemberLines.{lines_in, report_lines};
 
-use all_figures::{Worked, figures_at};
+use all_figures::{Worked, figures_from};
 use costs::Figures;
-use plan::{Member, Members};
+use plan::Member;
 use printed_lines::{write_amounts_line, write_pair_line, write_signed_line};
 use printing::Page;
 use rounding::Signed;
 use totals::Totals;
 
-// What is reported of an accepted case: the first `count` of its members with their figures, the sums of these, and what the plan
-// has yet to pay.
+// What is reported of an accepted case: its members, the array of their figures, the sums of these, and what the plan has yet to pay.
 #[derive(Clone, Copy)]
 pub struct Report<'a> {
-    pub members: &'a Members,
+    pub members: &'a [[u64; 5]],
     pub worked: &'a Worked,
-    pub count: u64,
     pub totals: Totals,
     pub unfunded: Signed,
     pub supplemental: Signed,
@@ -33,14 +31,14 @@ pub struct Report<'a> {
 impl Report<'_> {
     // Writes the members' lines.
     fn write_members(&self, page: &mut Page)
-        requires { (self.now.count ≤ most_members) × (page.old.at + 133000 < 2 ^ 64) }
-        ensures puts { Puts page.old (lines_in self.now.members.now self.now.worked.now self.now.count) page.new }
+        requires { (length self.now.members.now ≤ most_members) × (page.old.at + 133000 < 2 ^ 64) }
+        ensures puts { Puts page.old (lines_in self.now.members.now self.now.worked.now (length self.now.members.now)) page.new }
         ensures upper_bound { page.new.at ≤ page.old.at + 133000 }
     {
-        // By place: of both arrays only the first places are used, and a zip of two slices of them is no shorter.
-        for j in 0..self.count as usize {
-            let m = Member::from(self.members[j]);
-            let f = figures_at(self.worked, j);
+        // The figures by place: they stand in an array that may be longer, and a zip with a slice of it is no shorter.
+        for (j, &numbers) in self.members.iter().enumerate() {
+            let m = Member::from(numbers);
+            let f = figures_from(self.worked[j]);
             write_member_line(page, m.id, f);
         }
     }
@@ -48,18 +46,18 @@ impl Report<'_> {
     // Writes the plan's three lines.
     fn write_plan(&self, page: &mut Page)
         requires { page.old.at + 191 < 2 ^ 64 }
-        ensures { Puts page.old (plan_lines self.now.count self.now.totals (integer_of self.now.unfunded) (integer_of self.now.supplemental)) page.new }
+        ensures { Puts page.old (plan_lines (length self.now.members.now) self.now.totals (integer_of self.now.unfunded) (integer_of self.now.supplemental)) page.new }
     {
         let t = self.totals;
         let sums = [t.value, t.cost, t.liability];
-        write_amounts_line(page, b"total=", self.count, &sums);
+        write_amounts_line(page, b"total=", self.members.len() as u64, &sums);
         write_signed_line(page, b"unfunded=", self.unfunded);
         write_signed_line(page, b"supplemental=", self.supplemental);
     }
 
     // Writes all lines, from the start of the buffer on.
     pub fn write(&self, out: &mut [u8]) -> usize
-        requires { self.now.count ≤ most_members }
+        requires { length self.now.members.now ≤ most_members }
         ensures { PutsAt out.old 0 (report_lines self.now) out.new result }
     {
         let mut page = Page::new(out);

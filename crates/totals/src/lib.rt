@@ -3,16 +3,16 @@
 // section 11, which the crate funding works; specs/Sums.antt the sums over the array, and specs/Choice.antt which engine works.
 #![tactic(auto)]
 
-ghost use Rattle.std.specs.Prelude.{◌≡◌, ◌≤◌};
+ghost use Rattle.std.specs.Prelude.{◌≡◌, ◌≤◌, length};
 ghost use Rattle.walk.specs.Lines.{most_members};
 ghost use Rattle.all_figures.specs.Worked.{AcceptedMembers, members_in, SmallIn, AreWorked};
 ghost use Rattle.totals.specs.Totals.{totals};
 ghost use Rattle.totals.specs.Choice.{shared_for};
 ghost use Rattle.totals.specs.Sums.{sums_in};
 
-use all_figures::{Worked, figures_at};
+use all_figures::{Worked, figures_from};
 use plain_fill::fill_plainly;
-use plan::{Members, Plan};
+use plan::Plan;
 use rates::Rows;
 use shared_fill::fill_shared;
 
@@ -52,30 +52,29 @@ fn fill_figures(
     engine: EngineChoice,
     p: Plan,
     rows: Rows,
-    members: &Members,
-    count: usize,
+    members: &[[u64; 5]],
     worked: &mut Worked,
 )
-    requires { AcceptedMembers p rows members.now count }
-    ensures { AreWorked p rows members.now worked.new count }
+    requires { AcceptedMembers p rows members.now (length members.now) }
+    ensures { AreWorked p rows members.now worked.new (length members.now) }
 {
-    if shares(engine, count) {
-        fill_shared(p, rows, members, count, worked);
+    if shares(engine, members.len()) {
+        fill_shared(p, rows, members, worked);
         return;
     }
-    fill_plainly(p, rows, members, count, worked);
+    fill_plainly(p, rows, members, worked);
 }
 
-// Rule 11.1: the sums of the figures that the array holds.
-fn sum_figures(worked: &Worked, count: usize) -> Totals
-    requires { (count ≤ most_members) × SmallIn worked.now count }
-    ensures { result ≡ sums_in worked.now count }
+// Rule 11.1: the sums of figures that the array holds.
+fn sum_figures(worked: &[[u64; 4]]) -> Totals
+    requires { (length worked.now ≤ most_members) × SmallIn worked.now (length worked.now) }
+    ensures { result ≡ sums_in worked.now (length worked.now) }
 {
     let mut value = 0;
     let mut cost = 0;
     let mut liability = 0;
-    for j in 0..count {
-        let f = figures_at(worked, j);
+    for &numbers in worked {
+        let f = figures_from(numbers);
         value += f.value;
         cost += f.cost;
         liability += f.liability;
@@ -92,14 +91,13 @@ pub fn work(
     engine: EngineChoice,
     p: Plan,
     rows: Rows,
-    members: &Members,
-    count: usize,
+    members: &[[u64; 5]],
     worked: &mut Worked,
 ) -> Totals
-    requires { AcceptedMembers p rows members.now count }
-    ensures value { result ≡ totals p rows (members_in members.now count) }
-    ensures are_worked { AreWorked p rows members.now worked.new count }
+    requires { AcceptedMembers p rows members.now (length members.now) }
+    ensures value { result ≡ totals p rows (members_in members.now (length members.now)) }
+    ensures are_worked { AreWorked p rows members.now worked.new (length members.now) }
 {
-    fill_figures(engine, p, rows, members, count, worked);
-    sum_figures(worked, count)
+    fill_figures(engine, p, rows, members, worked);
+    sum_figures(&worked[..members.len()])
 }

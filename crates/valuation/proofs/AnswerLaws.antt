@@ -1,15 +1,18 @@
 -- From what accepting hands on to the answer, and from the two answers to what the program prints.
-use mathlib.Core.Path.{◌≡◌, refl, sym, ◌∙◌, ap}
+use mathlib.Core.Path.{◌≡◌, refl, sym, ◌∙◌, ap, subst⁻¹}
 use mathlib.Core.Bool.{Bool, true, false, cond}
-use mathlib.Core.List.{List}
+use mathlib.Core.List.{List, []}
 use Prim.Native.Nat.{ℕ, zero, suc, ◌^◌, ◌≤◌, ◌<◌}
 use native.Mathlib.Omega.{arith}
 use borrow.Author.Tests.{le-leb}
 use lib.Dec.{leb}
 use lib.ListN.{length, get_or, take}
 use lib.Seq.{take-suc, take-length}
+use Rattle.std.proofs.lemmas.List.{get_or-take, length-take-le}
+use Rattle.plan.specs.Numbers.{member_from}
 use Rattle.plan.specs.declared.Plan.{Plan}
 use Rattle.plan.specs.declared.Member.{Member}
+use Rattle.plan.specs.Ranges.{MemberRanges}
 use Rattle.rule_order.proofs.Facts.{id_small, member_facts}
 use Rattle.members.specs.Array.{member_at, array_of}
 use Rattle.members.proofs.ArrayLaws.{array_member}
@@ -58,6 +61,28 @@ accepted_members {p} {n} {rows} {members} a =
       id = λ j h. id_small p rows (id_before_at members j) (member_at members j) (a.member j h);
       member = λ j h. member_facts p rows (id_before_at members j) (member_at members j) a.plan (a.member j h);
     }
+
+-- the used part of the array is its members: member by member, all of them, and accepted as they are
+member_front : (a : List (List ℕ)) (n j : ℕ) → j < n → member_at (take n a) j ≡ member_at a j
+member_front a n j h = ap member_from (get_or-take n a j [] h)
+
+first_front : (a : List (List ℕ)) (n k : ℕ) → k ≤ n → members_in (take n a) k ≡ members_in a k
+unfolding members_in
+first_front a n zero h = refl
+first_front a n (suc k) h = rw (first_front a n k (omega arith), member_front a n k (omega arith)) refl
+
+pub members_front : (a : List (List ℕ)) (n : ℕ) → n ≤ length a → members_in (take n a) (length (take n a)) ≡ members_in a n
+members_front a n h = rw (length-take-le n a h) (first_front a n n (omega arith))
+
+pub accepted_front : {p : Plan} {rows : List (List ℕ)} (a : List (List ℕ)) (n : ℕ) → n ≤ length a → AcceptedMembers p rows a n → AcceptedMembers p rows (take n a) (length (take n a))
+accepted_front {p} {rows} a n h k =
+    rw (length-take-le n a h)
+    (record {
+      plan = k.plan;
+      few = k.few;
+      id = λ j l. subst⁻¹ (λ (m : Member). m.id ≤ 999999999) (member_front a n j l) (k.id j l);
+      member = λ j l. subst⁻¹ (MemberRanges p rows) (member_front a n j l) (k.member j l);
+    })
 
 -- an array that holds their figures makes short lines
 pub short_lines : (p : Plan) (rows members worked : List (List ℕ)) (n : ℕ) → AcceptedMembers p rows members n → AreWorked p rows members worked n → ShortLines members worked n

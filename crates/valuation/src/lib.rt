@@ -21,7 +21,7 @@ pub use fitting::refusal_line;
 use funding::{supplemental_of, unfunded_of};
 pub use plain_engine::value_member;
 pub use plan::{Amendments, Member, Plan};
-use plan::{MOST_AMENDMENTS, MOST_MEMBERS, Members};
+use plan::{MOST_AMENDMENTS, MOST_MEMBERS};
 use rates::{AGES, Rows};
 use report::Report;
 pub use rules::refusals::{Refusal, Refused};
@@ -48,7 +48,8 @@ pub fn value_case_by(engine: EngineChoice, case: &[u8], out: &mut [u8]) -> Resul
     let outline = accept_case(case, &mut amendments, &mut rows, &mut members)?;
     let listed = &amendments[..outline.amendments as usize];
     let valued = as_valued(outline.plan, listed);
-    value_accepted(engine, valued, rows, &members, outline.members, out)
+    let accepted = &members[..outline.members as usize];
+    value_accepted(engine, valued, rows, accepted, out)
 }
 
 // Values an accepted case, under the plan as it is valued.
@@ -56,22 +57,20 @@ fn value_accepted(
     engine: EngineChoice,
     p: Plan,
     rows: Rows,
-    members: &Members,
-    count: u64,
+    members: &[[u64; 5]],
     out: &mut [u8],
 ) -> Result<usize, Refused>
-    requires { AcceptedMembers p rows members.now count }
-    ensures value { outcome result ≡ answer (fitting (length out.old) (printed p rows (members_in members.now count))) }
-    ensures out_after { out.new ≡ buffer (fitting (length out.old) (printed p rows (members_in members.now count))) out.old }
+    requires { AcceptedMembers p rows members.now (length members.now) }
+    ensures value { outcome result ≡ answer (fitting (length out.old) (printed p rows (members_in members.now (length members.now)))) }
+    ensures out_after { out.new ≡ buffer (fitting (length out.old) (printed p rows (members_in members.now (length members.now)))) out.old }
 {
     let mut worked = [[0u64; 4]; MOST_MEMBERS];
-    let totals = work(engine, p, rows, members, count as usize, &mut worked);
+    let totals = work(engine, p, rows, members, &mut worked);
     let unfunded = unfunded_of(totals.liability, p.assets);
     let supplemental = supplemental_of(unfunded, p.interest, p.years);
     let report = Report {
         members,
         worked: &worked,
-        count,
         totals,
         unfunded,
         supplemental,

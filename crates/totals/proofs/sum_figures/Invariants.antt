@@ -3,5 +3,5 @@ use Rattle.std.proofs.Common.{◌≡◌}
 use Rattle.totals.specs.Sums.{sum_in}
 use Rattle.totals.proofs.sum_figures.Given as goal
 
-abbrev pub invariant-loop-j : goal.invariant-loop-j
-invariant-loop-j l = (l.value ≡ sum_in (λ f. f.value) l.worked l.j) × (l.cost ≡ sum_in (λ f. f.cost) l.worked l.j) × (l.liability ≡ sum_in (λ f. f.liability) l.worked l.j)
+abbrev pub invariant-loop-numbers : goal.invariant-loop-numbers
+invariant-loop-numbers l = (l.value ≡ sum_in (λ f. f.value) l.worked l.numbers-index) × (l.cost ≡ sum_in (λ f. f.cost) l.worked l.numbers-index) × (l.liability ≡ sum_in (λ f. f.liability) l.worked l.numbers-index)

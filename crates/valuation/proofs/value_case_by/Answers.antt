@@ -1,17 +1,19 @@
 -- `valuation::value_case_by` meets its contract.
 use mathlib.Core.Path.{sym, ◌∙◌, ap}
 use mathlib.Core.List.{List}
-use Prim.Native.Nat.{ℕ}
+use Prim.Native.Nat.{ℕ, ◌≤◌}
 use native.Mathlib.Omega.{arith}
 use lib.ListN.{length, replicate, length-take}
+use Rattle.std.proofs.lemmas.List.{length-take-le}
 use Rattle.plan.specs.declared.Plan.{Plan}
+use Rattle.plan.specs.declared.Member.{Member}
 use Rattle.casefile.specs.Stored.{AcceptedLists}
 use Rattle.casefile.proofs.Arrays.{accepted_arrays}
 use Rattle.all_figures.specs.Worked.{members_in}
 use Rattle.report.specs.Lines.{printed}
 use Rattle.fitting.specs.Fitting.{fitting, answer, buffer}
 use Rattle.rules.proofs.RefusalLaws.{told_at_line}
-use Rattle.valuation.proofs.AnswerLaws.{accepted_members, valued_accepted, valued_refused}
+use Rattle.valuation.proofs.AnswerLaws.{accepted_members, accepted_front, members_front, valued_accepted, valued_refused}
 use Rattle.valuation.proofs.value_case_by.Goals as goal
 use Rattle.valuation.proofs.value_case_by.Goals.{In_ok-outline}
 
@@ -32,6 +34,10 @@ lists c =
     let a = c.in_ok-outline.ensures in
     accepted_arrays c.args.case.now o.plan o.amendments o.members c.accept_case.new.amendments no_list c.accept_case.new.rows zero_rows c.accept_case.new.members no_members a.answer a.amendments_after a.rows_after a.members_after
 
+-- the members are some of those in their array
+within : (c : In_ok-outline) → c.in_ok-outline.outline.members ≤ length c.accept_case.new.members
+within c = omega (arith, (lists c).valued.few, c.accept_case.array_long3)
+
 pub slice_bounds-amendments-end : goal.slice_bounds-amendments-end
 slice_bounds-amendments-end c = (lists (goal.at.slice_bounds-amendments-end c).In_ok-outline).room
 
@@ -41,8 +47,15 @@ slice_bounds-listed-end c = simp length-take (omega (arith, (lists (goal.at.slic
 pub as_valued-valued-requires : goal.as_valued-valued-requires
 as_valued-valued-requires c = (lists (goal.at.as_valued-valued-requires c).In_ok-outline).list
 
+pub slice_bounds-accepted-end : goal.slice_bounds-accepted-end
+slice_bounds-accepted-end c = sym (length-take-le _ _ (within (goal.at.slice_bounds-accepted-end c).In_ok-outline))
+
+pub slice_bounds-members-end : goal.slice_bounds-members-end
+slice_bounds-members-end c = within (goal.at.slice_bounds-members-end c).In_ok-outline
+
 pub value_accepted-requires : goal.value_accepted-requires
-value_accepted-requires c = rw c.as_valued-valued.ensures (accepted_members (lists (goal.at.value_accepted-requires c).In_ok-outline).valued)
+value_accepted-requires c = let d = (goal.at.value_accepted-requires c).In_ok-outline in
+    rw c.as_valued-valued.ensures (accepted_front _ _ (within d) (accepted_members (lists d).valued))
 
 pub returns-in_err-outline : goal.returns-in_err-outline
 returns-in_err-outline c = let g = c.args in
@@ -57,5 +70,7 @@ returns c = let g = c.args in
     let v = c.value_accepted.ensures in
     let is = valued_accepted g.case.now (length g.out.now) {p = o.plan} {k = o.amendments} {n = o.members} {amendments = c.accept_case.new.amendments} {rows = c.accept_case.new.rows} {members = c.accept_case.new.members} no_list zero_rows no_members a.answer a.amendments_after a.rows_after a.members_after in
     let by = c.as_valued-valued.ensures in
-    let valued = ap (λ (p : Plan). fitting (length g.out.now) (printed p c.accept_case.new.rows (members_in c.accept_case.new.members o.members))) by ∙ is in
+    let used = members_front c.accept_case.new.members o.members (within (goal.at.returns c).In_ok-outline) in
+    let front = ap (λ (l : List Member). fitting (length g.out.now) (printed c.as_valued-valued.result c.accept_case.new.rows l)) used in
+    let valued = front ∙ ap (λ (p : Plan). fitting (length g.out.now) (printed p c.accept_case.new.rows (members_in c.accept_case.new.members o.members))) by ∙ is in
     record { value = v.value ∙ ap answer valued; out_after = v.out_after ∙ ap (λ o. buffer o g.out.now) valued }
