@@ -38,6 +38,10 @@ printed_bytes : (o : Outcome (List ℕ)) → bytes_of (answer o) ≡ written_of 
 printed_bytes (values lines) = refl
 printed_bytes (refusal number line) = refl
 
+-- what a refusal tells: its number and its line
+pub refusal_told : {A : Type 0} {o : Outcome A} {number line : ℕ} → refusal number line ≡ o → (number ≡ number_of o) × (line ≡ line_number_of o)
+refusal_told e = (ap number_of e, ap line_number_of e)
+
 -- from an answer that is told
 pub told_reading : {r : Outcome (Unit {0})} (o : Outcome Case) {n l : ℕ} → r ≡ reading o → n ≡ number_of r → l ≡ line_number_of r → (n ≡ number_of o) × (l ≡ line_number_of o)
 told_reading o e n l = (n ∙ ap number_of e ∙ read_number o, l ∙ ap line_number_of e ∙ read_line o)
