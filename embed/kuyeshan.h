@@ -1,5 +1,6 @@
 /* Kuyeshan for C: the valuation of defined-benefit pension plans by five cost methods. Link with libkuyeshan.a, which
- * `bin/build kuyeshan` writes to crates/kuyeshan/out/; beside memcpy and memset it needs nothing.
+ * `bin/build kuyeshan` writes to crates/kuyeshan/out/; beside memcpy and memset it needs nothing, and it runs on every
+ * x86-64 processor.
  *
  * Promised, and proved on every input: each function meets the contract that crates/kuyeshan/src/lib.rt states, an
  * equation with the definitions of the rules; it always returns, and does nothing undefined. Nothing checks these

@@ -18,7 +18,7 @@ pub const ENDS: usize = 61;
 
 // Columns of T or of Z, and which of them are filled. A mark beside a column and no Option in its place: who reads one has shown that it
 // is filled, and would have an arm for one that isn't.
-#[derive(Drop)]
+#[derive(Clone, Copy)]
 pub struct Columns {
     pub factors: [Factors; ENDS],
     pub filled: [bool; ENDS],

@@ -18,10 +18,10 @@ const HOMES: u64 = 4_096;
 
 // And two cells for each line, to go on from a line by the next bit of the number: 4,096 + 2 × 1,001. Those of line 0 stay
 // empty: lines are counted from 1, so that 0 is none.
-const CELLS: usize = 6_098;
+pub const CELLS: usize = 6_098;
 
 // The persons of the lines so far, and the sum of each.
-#[derive(Drop)]
+#[derive(Clone, Copy)]
 pub struct Persons {
     // A cell is empty, or holds the line at which a person came first.
     pub cells: [u32; CELLS],

@@ -40,7 +40,7 @@ pub fn write_field(page: &mut Page, cents: u64)
     ensures puts { Puts page.old (44 ∷ amount cents) page.new }
     ensures upper_bound { page.new.at ≤ page.old.at + 24 }
 {
-    page.put(SEPARATOR);
+    page.put(SEPARATOR); // before an amount
     page.amount(cents);
 }
 

@@ -54,7 +54,7 @@ fn answered(rt: &impl Print, input: &mut impl Read, bytes: &mut [u8]) -> io::Res
 fn reading(rt: &impl Print, case: &[u8]) -> io::Result<()> {
     match casefile::read_case(case) {
         Ok(()) => println!(rt; "read"),
-        Err(e) => refused(rt, e),
+        Err(e) => refused(rt, e.refusal.number(), e.line),
     }
 }
 
@@ -72,7 +72,7 @@ fn accepting(rt: &impl Print, case: &[u8]) -> io::Result<()> {
             next(rt, sum_of(&members, outline.members))?;
             println!(rt; "")
         }
-        Err(e) => refused(rt, e),
+        Err(e) => refused(rt, e.refusal.number(), e.line),
     }
 }
 

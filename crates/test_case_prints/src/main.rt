@@ -66,6 +66,6 @@ fn printed(rt: &impl Print, case: &[u8], out: &mut [u8], room: usize) -> io::Res
 fn answer(rt: &impl Print, said: Result<usize, Refused>) -> io::Result<()> {
     match said {
         Ok(n) => println!(rt; "written={n}"),
-        Err(e) => refused(rt, e),
+        Err(e) => refused(rt, e.refusal.number(), e.line),
     }
 }

@@ -70,14 +70,14 @@ fn answer(rt: &impl Print, bytes: &[u8; SIZE], amendments: &[[u64; 4]]) -> io::R
     accepting(rt, accept_member(p, amendments, rows, m))?;
     match plain_engine::value_member(p, amendments, rows, m) {
         Ok(f) => figures(rt, f),
-        Err(e) => refused(rt, e),
+        Err(e) => refused(rt, e.refusal.number(), e.line),
     }
 }
 
 fn accepting(rt: &impl Print, answer: Result<(), Refused>) -> io::Result<()> {
     match answer {
         Ok(()) => println!(rt; "accepted"),
-        Err(e) => refused(rt, e),
+        Err(e) => refused(rt, e.refusal.number(), e.line),
     }
 }
 

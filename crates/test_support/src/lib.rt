@@ -5,7 +5,6 @@
 ghost use Rattle.std.specs.Prelude.{◌+◌, ◌≤◌, ◌<◌, length};
 
 use rates::{AGES, Rows};
-use rules::refusals::Refused;
 use std::io;
 use std::io::{ErrorKind, Read};
 
@@ -46,7 +45,7 @@ fn row_at(bytes: &[u8], at: usize) -> [u32; 4]
 }
 
 // A number of 4 bytes.
-fn number_at(bytes: &[u8], at: usize) -> u32
+pub fn number_at(bytes: &[u8], at: usize) -> u32
     requires { at + 4 ≤ length bytes.now }
 {
     u32::from_le_bytes([bytes[at], bytes[at + 1], bytes[at + 2], bytes[at + 3]])
@@ -58,6 +57,6 @@ pub fn next(rt: &impl Print, number: u64) -> io::Result<()> {
 }
 
 // Writes the line of a refusal.
-pub fn refused(rt: &impl Print, refused: Refused) -> io::Result<()> {
-    println!(rt; "refused={},{}", refused.refusal.number(), refused.line)
+pub fn refused(rt: &impl Print, number: u64, line: u64) -> io::Result<()> {
+    println!(rt; "refused={number},{line}")
 }

@@ -45,7 +45,8 @@ pub fn value_case_by(engine: EngineChoice, case: &[u8], out: &mut [u8]) -> Resul
     let mut amendments = [[0; 4]; MOST_AMENDMENTS];
     let mut rows = [[0; 4]; AGES];
     let mut members = [[0; 5]; MOST_MEMBERS];
-    let outline = accept_case(case, &mut amendments, &mut rows, &mut members)?;
+    let answer = accept_case(case, &mut amendments, &mut rows, &mut members);
+    let outline = answer?;
     let listed = &amendments[..outline.amendments as usize];
     let valued = as_valued(outline.plan, listed);
     let accepted = &members[..outline.members as usize];

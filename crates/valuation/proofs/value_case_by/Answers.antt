@@ -28,15 +28,15 @@ abbrev no_members : List (List ℕ)
 no_members = replicate 1000 (replicate 5 0)
 
 -- what they hold after it
-lists : (c : In_ok-outline) → let o = c.in_ok-outline.outline in AcceptedLists o.plan o.amendments o.members c.accept_case.new.amendments c.accept_case.new.rows c.accept_case.new.members
+lists : (c : In_ok-outline) → let o = c.in_ok-outline.outline in AcceptedLists o.plan o.amendments o.members c.accept_case-answer.new.amendments c.accept_case-answer.new.rows c.accept_case-answer.new.members
 lists c =
     let o = c.in_ok-outline.outline in
     let a = c.in_ok-outline.ensures in
-    accepted_arrays c.args.case.now o.plan o.amendments o.members c.accept_case.new.amendments no_list c.accept_case.new.rows zero_rows c.accept_case.new.members no_members a.answer a.amendments_after a.rows_after a.members_after
+    accepted_arrays c.args.case.now o.plan o.amendments o.members c.accept_case-answer.new.amendments no_list c.accept_case-answer.new.rows zero_rows c.accept_case-answer.new.members no_members a.answer a.amendments_after a.rows_after a.members_after
 
 -- the members are some of those in their array
-within : (c : In_ok-outline) → c.in_ok-outline.outline.members ≤ length c.accept_case.new.members
-within c = omega (arith, (lists c).valued.few, c.accept_case.array_long3)
+within : (c : In_ok-outline) → c.in_ok-outline.outline.members ≤ length c.accept_case-answer.new.members
+within c = omega (arith, (lists c).valued.few, c.accept_case-answer.array_long3)
 
 pub slice_bounds-amendments-end : goal.slice_bounds-amendments-end
 slice_bounds-amendments-end c = (lists (goal.at.slice_bounds-amendments-end c).In_ok-outline).room
@@ -68,9 +68,9 @@ returns c = let g = c.args in
     let a = c.in_ok-outline.ensures in
     let o = c.in_ok-outline.outline in
     let v = c.value_accepted.ensures in
-    let is = valued_accepted g.case.now (length g.out.now) {p = o.plan} {k = o.amendments} {n = o.members} {amendments = c.accept_case.new.amendments} {rows = c.accept_case.new.rows} {members = c.accept_case.new.members} no_list zero_rows no_members a.answer a.amendments_after a.rows_after a.members_after in
+    let is = valued_accepted g.case.now (length g.out.now) {p = o.plan} {k = o.amendments} {n = o.members} {amendments = c.accept_case-answer.new.amendments} {rows = c.accept_case-answer.new.rows} {members = c.accept_case-answer.new.members} no_list zero_rows no_members a.answer a.amendments_after a.rows_after a.members_after in
     let by = c.as_valued-valued.ensures in
-    let used = members_front c.accept_case.new.members o.members (within (goal.at.returns c).In_ok-outline) in
-    let front = ap (λ (l : List Member). fitting (length g.out.now) (printed c.as_valued-valued.result c.accept_case.new.rows l)) used in
-    let valued = front ∙ ap (λ (p : Plan). fitting (length g.out.now) (printed p c.accept_case.new.rows (members_in c.accept_case.new.members o.members))) by ∙ is in
+    let used = members_front c.accept_case-answer.new.members o.members (within (goal.at.returns c).In_ok-outline) in
+    let front = ap (λ (l : List Member). fitting (length g.out.now) (printed c.as_valued-valued.result c.accept_case-answer.new.rows l)) used in
+    let valued = front ∙ ap (λ (p : Plan). fitting (length g.out.now) (printed p c.accept_case-answer.new.rows (members_in c.accept_case-answer.new.members o.members))) by ∙ is in
     record { value = v.value ∙ ap answer valued; out_after = v.out_after ∙ ap (λ o. buffer o g.out.now) valued }
